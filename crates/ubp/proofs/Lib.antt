@@ -1,0 +1,7 @@
+mod Layouts
+mod Own
+mod OwnCommands
+mod Parts
+mod Pegs
+mod Restoring
+mod Verdicts

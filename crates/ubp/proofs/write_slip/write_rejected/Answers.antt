@@ -1,0 +1,21 @@
+use borrow.Author.Needs.{needs}
+use mathlib.Core.Path.{_≡_, refl, sym, ap, _∙_}
+use mathlib.Core.List.{[], _∷_, _++_}
+use lib.ListN.{length, replicate, drop}
+use mir.Val.{ofZ, SFits}
+use mir.Syntax.{w32}
+use Rattle.std.proofs.shelf.Signed.{toZ-ofZ}
+use Rattle.orders.specs.Codes.{kindByte, letterByte}
+use Rattle.ubp.specs.Bytes.{bytes4, bytes8}
+use Rattle.ubp.specs.Answers.{headFields, orderFields, acceptedFields, replacedFields, executedFields, cancelledFields, rejectedFields, shown}
+use Rattle.ubp.proofs.Layouts.{after}
+use Rattle.ubp.proofs.Parts.{begin, more, more-by, begun-as, wrote}
+use Rattle.ubp.proofs.write_slip.write_rejected.Needs as need
+
+pub returns : need.returns
+unfolding headFields rejectedFields
+returns c =
+    let s = c .args .slip .now in
+    let w0 = c .put-head .ensures in
+    let w1 = more-by 1 (letterByte (s .letter) ∷ []) w0 (ap (λ b. b ∷ []) (c .byte .ensures)) refl (c .put .ensures) in
+    wrote (c .if-out-lt24 .left) w1 (after (kindByte (s .kind)) headFields (drop 2 rejectedFields) s refl)

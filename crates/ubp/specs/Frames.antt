@@ -1,0 +1,46 @@
+-- What a reader of commands answers, and the frame of a command.
+use Prim.Native.Nat.{ℕ}
+use mathlib.Core.Bool.{Bool, cond}
+use mathlib.Core.List.{List, [], _∷_}
+use lib.Dec.{eqb}
+use lib.ListN.{length}
+use Rattle.std.specs.declared.result.Result.{Result}
+use Rattle.std.specs.declared.result.Result.the-variants.{Ok, Err}
+use Rattle.orders.specs.declared.command.Command.{Command}
+use Rattle.orders.specs.declared.command.Command.the-variants.{Enter, Replace, Cancel}
+use Rattle.ubp.specs.declared.refusal.ReadRefusal.{ReadRefusal}
+use Rattle.ubp.specs.declared.refusal.ReadRefusal.the-variants.{WrongLength, UnknownType, BadField}
+use Rattle.ubp.specs.Formats.{Field, tests, sizeOf, bytesOf}
+use Rattle.ubp.specs.Commands.{enterType, enterFields, replaceType, replaceFields, cancelType, cancelFields}
+
+abbrev pub Verdict : Type 0
+Verdict = Result (Unit {0}) ReadRefusal
+
+-- the lowest field that failed its test, by its offset
+abbrev pub firstBad : List (ℕ × Bool) → Verdict
+firstBad [] = Ok tt
+firstBad (t ∷ ts) = cond (t .1) (firstBad ts) (Err (BadField (t .0)))
+
+-- on a frame of type b that goes on with f
+abbrev pub fieldsVerdict : {C : Type 0} → ℕ → List (Field C) → List ℕ → Verdict
+fieldsVerdict b fs f = cond (eqb (length f) (sizeOf fs)) (firstBad (tests 1 fs (b ∷ f))) (Err WrongLength)
+
+-- on any bytes: the first byte chooses the command, and the rest are its fields
+abbrev pub verdict : List ℕ → Verdict
+verdict [] = Err WrongLength
+verdict (b ∷ f) =
+    cond (eqb b enterType) (fieldsVerdict enterType enterFields f)
+    (cond (eqb b replaceType) (fieldsVerdict replaceType replaceFields f)
+    (cond (eqb b cancelType) (fieldsVerdict cancelType cancelFields f) (Err UnknownType)))
+
+-- a command's frame
+abbrev pub encoded : Command → List ℕ
+encoded (Enter c) = enterType ∷ bytesOf enterFields c
+encoded (Replace c) = replaceType ∷ bytesOf replaceFields c
+encoded (Cancel c) = cancelType ∷ bytesOf cancelFields c
+
+-- how many bytes it has
+abbrev pub commandSize : Command → ℕ
+commandSize (Enter c) = 67
+commandSize (Replace c) = 60
+commandSize (Cancel c) = 19
