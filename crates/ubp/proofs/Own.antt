@@ -1,12 +1,12 @@
 -- What is written is read, and as what it was: for any format by its fields, then for each command.
-use Prim.Native.Nat.{ℕ, _+_, _*_, _/_, _%_, _^_, _<_}
-use mathlib.Core.Bool.{Bool, true, false, cond}
+use Prim.Native.Nat.{ℕ, _+_}
+use mathlib.Core.Bool.{true}
 use mathlib.Core.Path.{_≡_, refl, sym, ap, _∙_}
 use mathlib.Core.List.{List, [], _∷_, _++_}
 use native.Mathlib.Omega.{arith}
-use lib.ListN.{length, getD, take, drop}
+use lib.ListN.{length, take, drop}
 use Rattle.std.proofs.shelf.Lists.{length-append, append-assoc, take-at, drop-at}
-use Rattle.std.specs.declared.result.Result.the-variants.{Ok, Err}
+use Rattle.std.specs.declared.result.Result.the-variants.{Ok}
 use Rattle.ubp.specs.Formats.{Field, tests, sizeOf, bytesOf}
 use Rattle.ubp.specs.Frames.{firstBad, fieldsVerdict}
 use Rattle.ubp.proofs.Verdicts.{right-length}
@@ -40,6 +40,7 @@ Each (x ∷ xs) c d = (x .bytes c ≡ x .bytes d) × Each xs c d
 
 pub each : {C : Type 0} (c d : C) (xs : List (Field C)) → Good c xs → Good d xs → bytesOf xs c ≡ bytesOf xs d → Each xs c d
 each c d [] g k e = tt
-each c d (x ∷ xs) g k e =
-    (sym (take-at (x .bytes c) (bytesOf xs c) (x .size) (g .0)) ∙ ap (take (x .size)) e ∙ take-at (x .bytes d) (bytesOf xs d) (x .size) (k .0),
-    each c d xs (g .2) (k .2) (sym (drop-at (x .bytes c) (bytesOf xs c) (x .size) (g .0)) ∙ ap (drop (x .size)) e ∙ drop-at (x .bytes d) (bytesOf xs d) (x .size) (k .0)))
+each c d (x ∷ xs) g k e = (
+  sym (take-at (x .bytes c) (bytesOf xs c) (x .size) (g .0)) ∙ ap (take (x .size)) e ∙ take-at (x .bytes d) (bytesOf xs d) (x .size) (k .0),
+  each c d xs (g .2) (k .2) (sym (drop-at (x .bytes c) (bytesOf xs c) (x .size) (g .0)) ∙ ap (drop (x .size)) e ∙ drop-at (x .bytes d) (bytesOf xs d) (x .size) (k .0)),
+)

@@ -1,7 +1,7 @@
 -- Each command's frame is read, and tells the command.
-use Prim.Native.Nat.{ℕ, _+_, _*_, _/_, _%_, _^_, _<_}
+use Prim.Native.Nat.{ℕ, _/_, _^_, _<_}
 use mathlib.Core.Path.{_≡_, refl, sym, ap, _∙_}
-use mathlib.Core.List.{List, [], _∷_, _++_}
+use mathlib.Core.List.{List, [], _∷_}
 use native.Mathlib.Omega.{arith}
 use lib.IntN.{ℤ}
 use lib.ListN.{length, getD, drop}
@@ -14,8 +14,7 @@ use Rattle.std.specs.declared.option.Option.{Option}
 use Rattle.std.specs.declared.option.Option.the-variants.{Some}
 use Rattle.std.specs.declared.result.Result.the-variants.{Ok, Err}
 use Rattle.orders.specs.Codes.{sideByte, sideOf, timeNumber, timeOf, capacityByte, capacityOf, constraintByte, constraintOf, leavesByte, leavesOf, styleByte, styleOf, pegByte, pegOf, gradeNumber, gradeOf, lotsByte, lotsOf}
-use Rattle.orders.proofs.FoundAgain.{side-is, time-is, capacity-is, constraint-is, leaves-is, style-is, peg-is, grade-is, lots-is}
-use Rattle.orders.specs.declared.fields.Terms.{Terms}
+use Rattle.orders.proofs.FoundAgain.{side-is, capacity-is, constraint-is, leaves-is, style-is, peg-is, grade-is, lots-is}
 use Rattle.orders.specs.declared.fields.TimeInForce.{TimeInForce}
 use Rattle.orders.specs.declared.fields.TimeInForce.the-variants.{Immediate, MarketHours}
 use Rattle.orders.specs.declared.enter.EnterOrder.{EnterOrder}
@@ -41,49 +40,155 @@ time-number-is MarketHours = refl
 
 pub enter-good : (c : EnterOrder) → Good c enterFields
 unfolding enterFields
-enter-good c =
-    (c .sized .0, refl,
-    (refl, ap isSome (side-is (c .terms .side)),
-    (refl, refl,
-    (c .sized .1, refl,
-    (refl, refl,
-    (refl, ap isSome (time-number-is (c .terms .time)),
-    (c .sized .2, refl,
-    (refl, refl,
-    (refl, ap isSome (capacity-is (c .terms .capacity)),
-    (refl, refl,
-    (refl, refl,
-    (refl, refl,
-    (refl, test-is (c .terms .peg) (c .terms .constraint) ∙ c .pegged,
-    (refl, refl,
-    (refl, ap isSome (leaves-is (c .terms .leaves)),
-    (refl, refl,
-    (refl, ap isSome (style-is (c .terms .style)),
-    (refl, ap isSome (peg-is (c .terms .peg)),
-    (refl, refl,
-    (refl, refl,
-    (refl, ap isSome (grade-is (c .terms .grade)),
-    (refl, refl,
-    (refl, ap isSome (lots-is (c .terms .lots)), tt)))))))))))))))))))))))
+enter-good c = (
+  c .sized .0,
+  refl,
+  (
+    refl,
+    ap isSome (side-is (c .terms .side)),
+    (
+      refl,
+      refl,
+      (
+        c .sized .1,
+        refl,
+        (
+          refl,
+          refl,
+          (
+            refl,
+            ap isSome (time-number-is (c .terms .time)),
+            (
+              c .sized .2,
+              refl,
+              (
+                refl,
+                refl,
+                (
+                  refl,
+                  ap isSome (capacity-is (c .terms .capacity)),
+                  (
+                    refl,
+                    refl,
+                    (
+                      refl,
+                      refl,
+                      (
+                        refl,
+                        refl,
+                        (
+                          refl,
+                          test-is (c .terms .peg) (c .terms .constraint) ∙ c .pegged,
+                          (
+                            refl,
+                            refl,
+                            (
+                              refl,
+                              ap isSome (leaves-is (c .terms .leaves)),
+                              (
+                                refl,
+                                refl,
+                                (
+                                  refl,
+                                  ap isSome (style-is (c .terms .style)),
+                                  (
+                                    refl,
+                                    ap isSome (peg-is (c .terms .peg)),
+                                    (
+                                      refl,
+                                      refl,
+                                      (
+                                        refl,
+                                        refl,
+                                        (
+                                          refl,
+                                          ap isSome (grade-is (c .terms .grade)),
+                                          (
+                                            refl,
+                                            refl,
+                                            (refl, ap isSome (lots-is (c .terms .lots)), tt),
+                                          ),
+                                        ),
+                                      ),
+                                    ),
+                                  ),
+                                ),
+                              ),
+                            ),
+                          ),
+                        ),
+                      ),
+                    ),
+                  ),
+                ),
+              ),
+            ),
+          ),
+        ),
+      ),
+    ),
+  ),
+)
 
 pub replace-good : (c : ReplaceOrder) → Good c replaceFields
 unfolding replaceFields
-replace-good c =
-    (c .sized .0, refl,
-    (c .sized .1, refl,
-    (refl, refl,
-    (refl, refl,
-    (refl, ap isSome (time-number-is (c .time)),
-    (refl, refl,
-    (refl, refl,
-    (refl, refl,
-    (refl, ap isSome (style-is (c .style)),
-    (refl, ap isSome (peg-is (c .peg)),
-    (refl, refl,
-    (refl, refl,
-    (refl, refl,
-    (refl, refl,
-    (refl, ap isSome (lots-is (c .lots)), tt)))))))))))))))
+replace-good c = (
+  c .sized .0,
+  refl,
+  (
+    c .sized .1,
+    refl,
+    (
+      refl,
+      refl,
+      (
+        refl,
+        refl,
+        (
+          refl,
+          ap isSome (time-number-is (c .time)),
+          (
+            refl,
+            refl,
+            (
+              refl,
+              refl,
+              (
+                refl,
+                refl,
+                (
+                  refl,
+                  ap isSome (style-is (c .style)),
+                  (
+                    refl,
+                    ap isSome (peg-is (c .peg)),
+                    (
+                      refl,
+                      refl,
+                      (
+                        refl,
+                        refl,
+                        (
+                          refl,
+                          refl,
+                          (
+                            refl,
+                            refl,
+                            (refl, ap isSome (lots-is (c .lots)), tt),
+                          ),
+                        ),
+                      ),
+                    ),
+                  ),
+                ),
+              ),
+            ),
+          ),
+        ),
+      ),
+    ),
+  ),
+)
 
 pub cancel-good : (c : CancelOrder) → Good c cancelFields
 unfolding cancelFields

@@ -3,7 +3,6 @@ use Prim.Native.Nat.{ℕ, zero, suc, _+_, _-_, _*_, _/_, _%_, _^_, _<_, _≤_}
 use mathlib.Core.Path.{_≡_, refl, sym, ap, _∙_}
 use mathlib.Core.List.{List, [], _∷_, _++_}
 use native.Mathlib.Omega.{arith}
-use borrow.Author.Needs.{needs}
 use borrow.Rule.Slice.PartMut.{putMid}
 use lib.Dec.{ltb, eqb}
 use borrow.Author.Tests.{eqb-true}
@@ -12,16 +11,16 @@ use mir.Syntax.{w8, w32}
 use lib.IntN.{ℤ}
 use native.Mathlib.Nat.{add-zero}
 use Rattle.std.specs.declared.option.Option.{Option}
-use Rattle.std.specs.declared.option.Option.the-variants.{Some, None}
+use Rattle.std.specs.declared.option.Option.the-variants.{Some}
 use Rattle.std.proofs.shelf.Signed.{ofZ-toZ}
 use Rattle.orders.specs.Codes.{coded}
 use Rattle.ubp.specs.Frames.{firstBad}
-use Rattle.ubp.specs.declared.refusal.ReadRefusal.the-variants.{BadField}
+use Rattle.ubp.specs.declared.refusal.WriteRefusal.the-variants.{ShortBuffer}
 use mathlib.Core.Bool.{Bool, true, false, cond}
 use Rattle.std.specs.declared.result.Result.the-variants.{Ok, Err}
 use lib.ListN.{length, getD, take, drop, replicate}
 use Rattle.ubp.specs.Bytes.{allAre, big4, bytes4}
-use Rattle.std.proofs.shelf.Lists.{take-append-drop, take-all, take-take, drop-take, drop-drop, drop-all, getD-drop, take-rest, length-take, length-drop, take-at, drop-at, length-append, append-assoc}
+use Rattle.std.proofs.shelf.Lists.{take-append-drop, drop-drop, drop-all, getD-drop, take-rest, length-take, length-drop, take-at, drop-at, length-append, append-assoc}
 use Rattle.std.proofs.shelf.Parts.{first-rest}
 use Rattle.ubp.specs.Writing.{putAt, Begun, Writes}
 
@@ -55,6 +54,10 @@ begun-as {n} {ms} {ws} {xs} b e = record { long = ap length (sym e) ∙ b .long;
 pub copied : (a k : ℕ) (xs ys bs : List ℕ) → ys ≡ bs → k ≡ length bs → putMid a k xs ys ≡ putAt a bs xs
 copied a k xs ys bs e h =
     ap (λ zs. take a xs ++ (zs ++ drop k (drop a xs))) e ∙ ap (λ zs. take a xs ++ (bs ++ zs)) (drop-drop k a xs ∙ ap (λ m. drop (a + m) xs) h)
+
+-- a buffer that is too short
+pub short : {n : ℕ} {ms xs : List ℕ} → length xs < n → Writes n ms xs xs (Err ShortBuffer)
+short {n} {ms} {xs} h = let e : ltb (length xs) n ≡ true = grind arith in record { answer = rw e; buffer = rw e }
 
 -- a message of n bytes that is written whole
 pub wrote : {n : ℕ} {ms xs ys ws : List ℕ} → n ≤ length xs → Begun n ms xs ys → ms ≡ ws → Writes n ws xs ys (Ok n)

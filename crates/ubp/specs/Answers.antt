@@ -1,5 +1,5 @@
 -- The formats of the six answers: the fields after the first byte, which is the slip's kind. Answers are written and not read, so their bytes count and not their tests.
-use Prim.Native.Nat.{ℕ, _+_}
+use Prim.Native.Nat.{ℕ}
 use mathlib.Core.List.{List, [], _∷_, _++_}
 use lib.ListN.{replicate}
 use Rattle.std.specs.declared.option.Option.{Option}
@@ -10,7 +10,7 @@ use Rattle.orders.specs.declared.slip.Slip.{Slip}
 use Rattle.orders.specs.declared.slip.SlipKind.{SlipKind}
 use Rattle.orders.specs.declared.slip.SlipKind.the-variants.{Accepted, Replaced, Executed, Cancelled, CancelRejected, Rejected}
 use Rattle.ubp.specs.declared.shown.ShownTerms.{ShownTerms}
-use Rattle.ubp.specs.Formats.{Field, text, number, long, price, byte, spaces, zeros, bytesOf, sizeOf}
+use Rattle.ubp.specs.Formats.{Field, text, number, long, price, byte, spaces, zeros, message, messageSize}
 
 -- the terms as an answer shows them: absent terms are spaces and zeros
 abbrev pub shown : Option Terms → ShownTerms
@@ -95,14 +95,9 @@ slipFields Cancelled = cancelledFields
 slipFields CancelRejected = headFields
 slipFields Rejected = rejectedFields
 
--- a slip's message, and its length
+-- a slip's message, and how many bytes it has
 abbrev pub slipBytes : Slip → List ℕ
-slipBytes s = kindByte (s .kind) ∷ bytesOf (slipFields (s .kind)) s
+slipBytes s = message (kindByte (s .kind)) (slipFields (s .kind)) s
 
-abbrev pub slipSize : SlipKind → ℕ
-slipSize Accepted = 84
-slipSize Replaced = 98
-slipSize Executed = 40
-slipSize Cancelled = 28
-slipSize CancelRejected = 23
-slipSize Rejected = 24
+abbrev pub slipSize : Slip → ℕ
+slipSize s = messageSize (slipFields (s .kind))

@@ -1,11 +1,10 @@
 -- What a format is: a message's first byte says its type, and its fields follow one after another. A format lists them once, and the bytes of a message, its length, each field's
 -- offset and the tests of a reader all come from that list.
 use Prim.Native.Nat.{ℕ, _+_}
-use mathlib.Core.Bool.{Bool, true, false, cond}
+use mathlib.Core.Bool.{Bool, true}
 use mathlib.Core.List.{List, [], _∷_, _++_}
-use lib.Dec.{eqb}
 use lib.IntN.{ℤ}
-use lib.ListN.{length, getD, take, drop, replicate}
+use lib.ListN.{getD, take, drop, replicate}
 use mir.Syntax.{w32}
 use mir.Val.{ofZ}
 use Rattle.std.specs.Options.{isSome}
@@ -68,6 +67,14 @@ bytesOf (x ∷ xs) c = x .bytes c ++ bytesOf xs c
 abbrev pub sizeOf : {C : Type 0} → List (Field C) → ℕ
 sizeOf [] = 0
 sizeOf (x ∷ xs) = x .size + sizeOf xs
+
+-- a message of type b: the byte of its type, and its fields
+abbrev pub message : {C : Type 0} → ℕ → List (Field C) → C → List ℕ
+message b xs c = b ∷ bytesOf xs c
+
+-- how many bytes it has
+abbrev pub messageSize : {C : Type 0} → List (Field C) → ℕ
+messageSize xs = 1 + sizeOf xs
 
 -- of each field, its offset in the frame and whether the frame may hold what stands there, the first field's offset being i
 abbrev pub tests : {C : Type 0} → ℕ → List (Field C) → List ℕ → List (ℕ × Bool)

@@ -10,7 +10,7 @@ use Rattle.orders.specs.declared.command.Command.{Command}
 use Rattle.orders.specs.declared.command.Command.the-variants.{Enter, Replace, Cancel}
 use Rattle.ubp.specs.declared.refusal.ReadRefusal.{ReadRefusal}
 use Rattle.ubp.specs.declared.refusal.ReadRefusal.the-variants.{WrongLength, UnknownType, BadField}
-use Rattle.ubp.specs.Formats.{Field, tests, sizeOf, bytesOf}
+use Rattle.ubp.specs.Formats.{Field, tests, sizeOf, message, messageSize}
 use Rattle.ubp.specs.Commands.{enterType, enterFields, replaceType, replaceFields, cancelType, cancelFields}
 
 abbrev pub Verdict : Type 0
@@ -35,12 +35,12 @@ verdict (b ∷ f) =
 
 -- a command's frame
 abbrev pub encoded : Command → List ℕ
-encoded (Enter c) = enterType ∷ bytesOf enterFields c
-encoded (Replace c) = replaceType ∷ bytesOf replaceFields c
-encoded (Cancel c) = cancelType ∷ bytesOf cancelFields c
+encoded (Enter c) = message enterType enterFields c
+encoded (Replace c) = message replaceType replaceFields c
+encoded (Cancel c) = message cancelType cancelFields c
 
 -- how many bytes it has
 abbrev pub commandSize : Command → ℕ
-commandSize (Enter c) = 67
-commandSize (Replace c) = 60
-commandSize (Cancel c) = 19
+commandSize (Enter c) = messageSize enterFields
+commandSize (Replace c) = messageSize replaceFields
+commandSize (Cancel c) = messageSize cancelFields

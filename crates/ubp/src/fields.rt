@@ -1,6 +1,6 @@
 // Field readers: each takes a part of the frame that starts at its field.
 ghost use mathlib.Core.Path.{_≡_};
-ghost use Prim.Native.Nat.{ℕ, _≤_};
+ghost use Prim.Native.Nat.{_≤_};
 ghost use lib.ListN.{length, take};
 ghost use mir.Val.{toZ};
 ghost use mir.Syntax.{w32};

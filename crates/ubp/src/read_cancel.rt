@@ -1,6 +1,5 @@
 // The reader of the command that cancels an order.
 ghost use mathlib.Core.Path.{_≡_};
-ghost use mathlib.Core.List.{_∷_};
 ghost use Rattle.std.specs.Results.{Cases};
 ghost use Rattle.ubp.specs.Commands.{cancelType, cancelFields};
 ghost use Rattle.ubp.specs.Formats.{bytesOf};

@@ -1,8 +1,6 @@
 // The writer of commands.
-ghost use mathlib.Core.Path.{_≡_};
-ghost use mathlib.Core.List.{_∷_};
 ghost use Rattle.ubp.specs.Commands.{enterType, enterFields, replaceType, replaceFields, cancelType, cancelFields};
-ghost use Rattle.ubp.specs.Formats.{bytesOf};
+ghost use Rattle.ubp.specs.Formats.{message, messageSize};
 ghost use Rattle.ubp.specs.Frames.{encoded, commandSize};
 ghost use Rattle.ubp.specs.Theorems.{Taken, Told};
 ghost use Rattle.ubp.specs.Writing.{Writes};
@@ -14,7 +12,7 @@ use orders::command::ReplaceOrder;
 use orders::enter::EnterOrder;
 
 fn write_enter(order: &EnterOrder, out: &mut [u8]) -> Result<usize, WriteRefusal>
-    ensures { λ r. ⌜ Writes 67 (enterType ∷ bytesOf enterFields (now (order .entry))) (now (out .entry)) (now (out .exit)) r ⌝ }
+    ensures { λ r. ⌜ Writes (messageSize enterFields) (message enterType enterFields (now (order .entry))) (now (out .entry)) (now (out .exit)) r ⌝ }
 {
     if out.len() < 67 {
         return Err(WriteRefusal::ShortBuffer);
@@ -48,7 +46,7 @@ fn write_enter(order: &EnterOrder, out: &mut [u8]) -> Result<usize, WriteRefusal
 }
 
 fn write_replace(order: &ReplaceOrder, out: &mut [u8]) -> Result<usize, WriteRefusal>
-    ensures { λ r. ⌜ Writes 60 (replaceType ∷ bytesOf replaceFields (now (order .entry))) (now (out .entry)) (now (out .exit)) r ⌝ }
+    ensures { λ r. ⌜ Writes (messageSize replaceFields) (message replaceType replaceFields (now (order .entry))) (now (out .entry)) (now (out .exit)) r ⌝ }
 {
     if out.len() < 60 {
         return Err(WriteRefusal::ShortBuffer);
@@ -73,7 +71,7 @@ fn write_replace(order: &ReplaceOrder, out: &mut [u8]) -> Result<usize, WriteRef
 }
 
 fn write_cancel(order: &CancelOrder, out: &mut [u8]) -> Result<usize, WriteRefusal>
-    ensures { λ r. ⌜ Writes 19 (cancelType ∷ bytesOf cancelFields (now (order .entry))) (now (out .entry)) (now (out .exit)) r ⌝ }
+    ensures { λ r. ⌜ Writes (messageSize cancelFields) (message cancelType cancelFields (now (order .entry))) (now (out .entry)) (now (out .exit)) r ⌝ }
 {
     if out.len() < 19 {
         return Err(WriteRefusal::ShortBuffer);

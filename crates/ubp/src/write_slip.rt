@@ -1,11 +1,11 @@
 // The writer of slips.
 ghost use mathlib.Core.Path.{_≡_};
-ghost use mathlib.Core.List.{_∷_, _++_};
+ghost use mathlib.Core.List.{_++_};
 ghost use Prim.Native.Nat.{_≤_};
 ghost use lib.ListN.{length};
 ghost use Rattle.orders.specs.Codes.{kindByte};
 ghost use Rattle.ubp.specs.Answers.{headFields, orderFields, acceptedFields, replacedFields, executedFields, cancelledFields, rejectedFields, slipBytes, slipSize, shown};
-ghost use Rattle.ubp.specs.Formats.{bytesOf};
+ghost use Rattle.ubp.specs.Formats.{message, messageSize};
 ghost use Rattle.ubp.specs.Writing.{Begun, Writes};
 use crate::put::put;
 use crate::refusal::WriteRefusal;
@@ -16,7 +16,7 @@ use orders::slip::SlipKind;
 // Writes how every answer begins.
 fn put_head(slip: &Slip, out: &mut [u8])
     requires { ⌜ 23 ≤ length (now out) ⌝ }
-    ensures { λ _. ⌜ Begun 23 (kindByte (now (slip .entry) .kind) ∷ bytesOf headFields (now (slip .entry))) (now (out .entry)) (now (out .exit)) ⌝ }
+    ensures { λ _. ⌜ Begun 23 (message (kindByte (now (slip .entry) .kind)) headFields (now (slip .entry))) (now (out .entry)) (now (out .exit)) ⌝ }
 {
     put(out, 0, &[slip.kind.byte()]);
     put(out, 1, &slip.clock.to_be_bytes());
@@ -27,7 +27,7 @@ fn put_head(slip: &Slip, out: &mut [u8])
 fn put_order(slip: &Slip, terms: &ShownTerms, out: &mut [u8])
     requires room { ⌜ 63 ≤ length (now out) ⌝ }
     requires same { ⌜ now terms ≡ shown (now slip .terms) ⌝ }
-    ensures { λ _. ⌜ Begun 63 (kindByte (now (slip .entry) .kind) ∷ bytesOf (headFields ++ orderFields) (now (slip .entry))) (now (out .entry)) (now (out .exit)) ⌝ }
+    ensures { λ _. ⌜ Begun 63 (message (kindByte (now (slip .entry) .kind)) (headFields ++ orderFields) (now (slip .entry))) (now (out .entry)) (now (out .exit)) ⌝ }
 {
     put_head(slip, out);
     put(out, 23, &[terms.side]);
@@ -46,7 +46,7 @@ fn put_order(slip: &Slip, terms: &ShownTerms, out: &mut [u8])
 }
 
 fn write_accepted(slip: &Slip, out: &mut [u8]) -> Result<usize, WriteRefusal>
-    ensures { λ r. ⌜ Writes 84 (kindByte (now (slip .entry) .kind) ∷ bytesOf acceptedFields (now (slip .entry))) (now (out .entry)) (now (out .exit)) r ⌝ }
+    ensures { λ r. ⌜ Writes (messageSize acceptedFields) (message (kindByte (now (slip .entry) .kind)) acceptedFields (now (slip .entry))) (now (out .entry)) (now (out .exit)) r ⌝ }
 {
     if out.len() < 84 {
         return Err(WriteRefusal::ShortBuffer);
@@ -65,7 +65,7 @@ fn write_accepted(slip: &Slip, out: &mut [u8]) -> Result<usize, WriteRefusal>
 }
 
 fn write_replaced(slip: &Slip, out: &mut [u8]) -> Result<usize, WriteRefusal>
-    ensures { λ r. ⌜ Writes 98 (kindByte (now (slip .entry) .kind) ∷ bytesOf replacedFields (now (slip .entry))) (now (out .entry)) (now (out .exit)) r ⌝ }
+    ensures { λ r. ⌜ Writes (messageSize replacedFields) (message (kindByte (now (slip .entry) .kind)) replacedFields (now (slip .entry))) (now (out .entry)) (now (out .exit)) r ⌝ }
 {
     if out.len() < 98 {
         return Err(WriteRefusal::ShortBuffer);
@@ -85,7 +85,7 @@ fn write_replaced(slip: &Slip, out: &mut [u8]) -> Result<usize, WriteRefusal>
 }
 
 fn write_executed(slip: &Slip, out: &mut [u8]) -> Result<usize, WriteRefusal>
-    ensures { λ r. ⌜ Writes 40 (kindByte (now (slip .entry) .kind) ∷ bytesOf executedFields (now (slip .entry))) (now (out .entry)) (now (out .exit)) r ⌝ }
+    ensures { λ r. ⌜ Writes (messageSize executedFields) (message (kindByte (now (slip .entry) .kind)) executedFields (now (slip .entry))) (now (out .entry)) (now (out .exit)) r ⌝ }
 {
     if out.len() < 40 {
         return Err(WriteRefusal::ShortBuffer);
@@ -99,7 +99,7 @@ fn write_executed(slip: &Slip, out: &mut [u8]) -> Result<usize, WriteRefusal>
 }
 
 fn write_cancelled(slip: &Slip, out: &mut [u8]) -> Result<usize, WriteRefusal>
-    ensures { λ r. ⌜ Writes 28 (kindByte (now (slip .entry) .kind) ∷ bytesOf cancelledFields (now (slip .entry))) (now (out .entry)) (now (out .exit)) r ⌝ }
+    ensures { λ r. ⌜ Writes (messageSize cancelledFields) (message (kindByte (now (slip .entry) .kind)) cancelledFields (now (slip .entry))) (now (out .entry)) (now (out .exit)) r ⌝ }
 {
     if out.len() < 28 {
         return Err(WriteRefusal::ShortBuffer);
@@ -111,7 +111,7 @@ fn write_cancelled(slip: &Slip, out: &mut [u8]) -> Result<usize, WriteRefusal>
 }
 
 fn write_cancel_rejected(slip: &Slip, out: &mut [u8]) -> Result<usize, WriteRefusal>
-    ensures { λ r. ⌜ Writes 23 (kindByte (now (slip .entry) .kind) ∷ bytesOf headFields (now (slip .entry))) (now (out .entry)) (now (out .exit)) r ⌝ }
+    ensures { λ r. ⌜ Writes (messageSize headFields) (message (kindByte (now (slip .entry) .kind)) headFields (now (slip .entry))) (now (out .entry)) (now (out .exit)) r ⌝ }
 {
     if out.len() < 23 {
         return Err(WriteRefusal::ShortBuffer);
@@ -121,7 +121,7 @@ fn write_cancel_rejected(slip: &Slip, out: &mut [u8]) -> Result<usize, WriteRefu
 }
 
 fn write_rejected(slip: &Slip, out: &mut [u8]) -> Result<usize, WriteRefusal>
-    ensures { λ r. ⌜ Writes 24 (kindByte (now (slip .entry) .kind) ∷ bytesOf rejectedFields (now (slip .entry))) (now (out .entry)) (now (out .exit)) r ⌝ }
+    ensures { λ r. ⌜ Writes (messageSize rejectedFields) (message (kindByte (now (slip .entry) .kind)) rejectedFields (now (slip .entry))) (now (out .entry)) (now (out .exit)) r ⌝ }
 {
     if out.len() < 24 {
         return Err(WriteRefusal::ShortBuffer);
@@ -133,7 +133,7 @@ fn write_rejected(slip: &Slip, out: &mut [u8]) -> Result<usize, WriteRefusal>
 
 // Writes a slip's message to the front of the host's buffer, and answers its length. A buffer that is too short is left as it was.
 pub fn write_slip(slip: &Slip, out: &mut [u8]) -> Result<usize, WriteRefusal>
-    ensures { λ r. ⌜ Writes (slipSize (now (slip .entry) .kind)) (slipBytes (now (slip .entry))) (now (out .entry)) (now (out .exit)) r ⌝ }
+    ensures { λ r. ⌜ Writes (slipSize (now (slip .entry))) (slipBytes (now (slip .entry))) (now (out .entry)) (now (out .exit)) r ⌝ }
 {
     match slip.kind {
         SlipKind::Accepted => write_accepted(slip, out),

@@ -1,9 +1,6 @@
 use native.Mathlib.Omega.{arith}
-use mathlib.Core.Path.{_≡_, refl, sym, ap, _∙_}
-use mathlib.Core.Bool.{cond}
+use mathlib.Core.Path.{_≡_, refl, ap}
 use lib.ListN.{length}
-use Rattle.std.specs.declared.result.Result.the-variants.{Ok, Err}
-use Rattle.ubp.specs.declared.refusal.ReadRefusal.the-variants.{BadField}
 use Rattle.ubp.specs.Commands.{cancelType, cancelFields}
 use Rattle.ubp.specs.Frames.{firstBad}
 use Rattle.ubp.proofs.Parts.{part, ends, copy-at, fill-at, test, no-test}

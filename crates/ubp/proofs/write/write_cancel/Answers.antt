@@ -1,15 +1,15 @@
 use borrow.Author.Needs.{needs}
-use mathlib.Core.Path.{_≡_, refl, ap, _∙_}
+use mathlib.Core.Path.{_≡_, refl}
 use mathlib.Core.List.{[], _∷_}
 use lib.ListN.{length, replicate}
-use mir.Val.{ofZ, SFits}
-use mir.Syntax.{w32}
-use Rattle.std.proofs.shelf.Signed.{toZ-ofZ}
-use Rattle.ubp.specs.Bytes.{bytes4}
 use Rattle.ubp.specs.Commands.{cancelType, cancelFields}
 use Rattle.ubp.proofs.Layouts.{after}
-use Rattle.ubp.proofs.Parts.{begin, more, more-by, wrote}
+use Rattle.ubp.proofs.Parts.{begin, more, short, wrote}
 use Rattle.ubp.proofs.write.write_cancel.Needs as need
+
+pub returns-then-out-lt19 : need.returns-then-out-lt19
+unfolding cancelFields
+returns-then-out-lt19 c = short (c .if-out-lt19 .taken)
 
 pub returns : need.returns
 unfolding cancelFields

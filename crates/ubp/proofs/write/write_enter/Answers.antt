@@ -9,8 +9,12 @@ use Rattle.orders.specs.Codes.{timeNumber, styleByte, pegByte, lotsByte, sideBy
 use Rattle.ubp.specs.Bytes.{bytes4}
 use Rattle.ubp.specs.Commands.{enterType, enterFields}
 use Rattle.ubp.proofs.Layouts.{after}
-use Rattle.ubp.proofs.Parts.{begin, more, more-by, wrote}
+use Rattle.ubp.proofs.Parts.{begin, more, more-by, short, wrote}
 use Rattle.ubp.proofs.write.write_enter.Needs as need
+
+pub returns-then-out-lt67 : need.returns-then-out-lt67
+unfolding enterFields
+returns-then-out-lt67 c = short (c .if-out-lt67 .taken)
 
 pub returns : need.returns
 unfolding enterFields

@@ -9,8 +9,12 @@ use Rattle.orders.specs.Codes.{timeNumber, styleByte, pegByte, lotsByte}
 use Rattle.ubp.specs.Bytes.{bytes4}
 use Rattle.ubp.specs.Commands.{replaceType, replaceFields}
 use Rattle.ubp.proofs.Layouts.{after}
-use Rattle.ubp.proofs.Parts.{begin, more, more-by, wrote}
+use Rattle.ubp.proofs.Parts.{begin, more, more-by, short, wrote}
 use Rattle.ubp.proofs.write.write_replace.Needs as need
+
+pub returns-then-out-lt60 : need.returns-then-out-lt60
+unfolding replaceFields
+returns-then-out-lt60 c = short (c .if-out-lt60 .taken)
 
 pub returns : need.returns
 unfolding replaceFields

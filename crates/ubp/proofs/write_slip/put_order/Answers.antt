@@ -1,15 +1,15 @@
 use borrow.Author.Needs.{needs}
 use mathlib.Core.Path.{_≡_, refl, sym, ap, _∙_}
-use mathlib.Core.List.{[], _∷_, _++_}
-use lib.ListN.{length, replicate, drop}
+use mathlib.Core.List.{[], _∷_}
+use lib.ListN.{length, replicate}
 use mir.Val.{ofZ, SFits}
 use mir.Syntax.{w32}
 use Rattle.std.proofs.shelf.Signed.{toZ-ofZ}
 use Rattle.orders.specs.Codes.{kindByte, letterByte}
 use Rattle.ubp.specs.Bytes.{bytes4, bytes8}
-use Rattle.ubp.specs.Answers.{headFields, orderFields, acceptedFields, replacedFields, executedFields, cancelledFields, rejectedFields, shown}
+use Rattle.ubp.specs.Answers.{headFields, orderFields, shown}
 use Rattle.ubp.proofs.Layouts.{after}
-use Rattle.ubp.proofs.Parts.{begin, more, more-by, begun-as, wrote}
+use Rattle.ubp.proofs.Parts.{more, more-by, begun-as}
 use Rattle.ubp.proofs.write_slip.put_order.Needs as need
 
 pub returns : need.returns

@@ -1,16 +1,16 @@
 use borrow.Author.Needs.{needs}
-use mathlib.Core.Path.{_≡_, refl, sym, ap, _∙_}
+use mathlib.Core.Path.{_≡_, refl, ap}
 use mathlib.Core.List.{[], _∷_, _++_}
 use lib.ListN.{length, replicate, drop}
-use mir.Val.{ofZ, SFits}
-use mir.Syntax.{w32}
-use Rattle.std.proofs.shelf.Signed.{toZ-ofZ}
-use Rattle.orders.specs.Codes.{kindByte, letterByte}
-use Rattle.ubp.specs.Bytes.{bytes4, bytes8}
-use Rattle.ubp.specs.Answers.{headFields, orderFields, acceptedFields, replacedFields, executedFields, cancelledFields, rejectedFields, shown}
+use Rattle.orders.specs.Codes.{kindByte}
+use Rattle.ubp.specs.Answers.{headFields, orderFields, replacedFields, shown}
 use Rattle.ubp.proofs.Layouts.{after}
-use Rattle.ubp.proofs.Parts.{begin, more, more-by, begun-as, wrote}
+use Rattle.ubp.proofs.Parts.{more, more-by, short, wrote}
 use Rattle.ubp.proofs.write_slip.write_replaced.Needs as need
+
+pub returns-then-out-lt98 : need.returns-then-out-lt98
+unfolding headFields orderFields replacedFields
+returns-then-out-lt98 c = short (c .if-out-lt98 .taken)
 
 pub returns : need.returns
 unfolding headFields orderFields replacedFields
