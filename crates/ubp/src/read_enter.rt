@@ -1,12 +1,11 @@
 // The reader of the command that enters an order.
 ghost use mathlib.Core.Path.{_≡_};
 ghost use lib.ListN.{length};
-ghost use Rattle.std.specs.Results.{Cases};
 ghost use Rattle.std.specs.Vec.{made};
-ghost use Rattle.std.specs.declared.result.Result.the-variants.{Ok, Err};
+ghost use Rattle.std.specs.declared.result.Result.the-variants.{Ok};
 ghost use Rattle.ubp.specs.Commands.{besidePeg, enterType, enterFields};
 ghost use Rattle.ubp.specs.Formats.{bytesOf};
-ghost use Rattle.ubp.specs.Frames.{fieldsVerdict};
+ghost use Rattle.ubp.specs.Frames.{Reads, fieldsVerdict};
 use crate::fields::bytes;
 use crate::fields::filled;
 use crate::fields::first_bad;
@@ -67,13 +66,13 @@ fn check_enter(fields: &[u8]) -> Result<(), ReadRefusal>
     )
 }
 
-// Fills an enter from fields that passed their tests.
-fn fill_enter(fields: &[u8], into: &mut EnterOrder)
+// Takes an enter from fields that passed their tests.
+fn take_enter(fields: &[u8]) -> EnterOrder
     requires long { ⌜ length (now fields) ≡ 66 ⌝ }
     requires passed { ⌜ fieldsVerdict enterType enterFields (now fields) ≡ Ok tt ⌝ }
-    ensures { λ _. ⌜ now (fields .entry) ≡ bytesOf enterFields (now (into .exit)) ⌝ }
+    ensures { λ r. ⌜ now (fields .entry) ≡ bytesOf enterFields r ⌝ }
 {
-    *into = EnterOrder {
+    EnterOrder {
         token: bytes(&fields[0..]),
         shares: number(&fields[15..]),
         price: signed(&fields[25..]),
@@ -91,15 +90,13 @@ fn fill_enter(fields: &[u8], into: &mut EnterOrder)
             grade: InviteGrade::of(fields[60]).unwrap(),
             lots: Lots::of(fields[65]).unwrap(),
         },
-    };
+    }
 }
 
 // Reads all that follows the first byte.
-pub(crate) fn read_enter(fields: &[u8], into: &mut EnterOrder) -> Result<(), ReadRefusal>
-    ensures answer { λ r. ⌜ r ≡ fieldsVerdict enterType enterFields (now (fields .entry)) ⌝ }
-    ensures filled { λ r. ⌜ Cases r (λ _. now (fields .entry) ≡ bytesOf enterFields (now (into .exit))) (λ _. now (into .exit) ≡ now (into .entry)) ⌝ }
+pub(crate) fn read_enter(fields: &[u8]) -> Result<EnterOrder, ReadRefusal>
+    ensures { λ r. ⌜ Reads enterType enterFields (now (fields .entry)) r ⌝ }
 {
     check_enter(fields)?;
-    fill_enter(fields, into);
-    Ok(())
+    Ok(take_enter(fields))
 }

@@ -1,12 +1,11 @@
 // The reader of the command that replaces an order.
 ghost use mathlib.Core.Path.{_≡_};
 ghost use lib.ListN.{length};
-ghost use Rattle.std.specs.Results.{Cases};
 ghost use Rattle.std.specs.Vec.{made};
-ghost use Rattle.std.specs.declared.result.Result.the-variants.{Ok, Err};
+ghost use Rattle.std.specs.declared.result.Result.the-variants.{Ok};
 ghost use Rattle.ubp.specs.Commands.{replaceType, replaceFields};
 ghost use Rattle.ubp.specs.Formats.{bytesOf};
-ghost use Rattle.ubp.specs.Frames.{fieldsVerdict};
+ghost use Rattle.ubp.specs.Frames.{Reads, fieldsVerdict};
 use crate::fields::bytes;
 use crate::fields::filled;
 use crate::fields::first_bad;
@@ -43,13 +42,13 @@ fn check_replace(fields: &[u8]) -> Result<(), ReadRefusal>
     )
 }
 
-// Fills a replace from fields that passed their tests.
-fn fill_replace(fields: &[u8], into: &mut ReplaceOrder)
+// Takes a replace from fields that passed their tests.
+fn take_replace(fields: &[u8]) -> ReplaceOrder
     requires long { ⌜ length (now fields) ≡ 59 ⌝ }
     requires passed { ⌜ fieldsVerdict replaceType replaceFields (now fields) ≡ Ok tt ⌝ }
-    ensures { λ _. ⌜ now (fields .entry) ≡ bytesOf replaceFields (now (into .exit)) ⌝ }
+    ensures { λ r. ⌜ now (fields .entry) ≡ bytesOf replaceFields r ⌝ }
 {
-    *into = ReplaceOrder {
+    ReplaceOrder {
         existing: bytes(&fields[0..]),
         token: bytes(&fields[14..]),
         shares: number(&fields[28..]),
@@ -59,15 +58,13 @@ fn fill_replace(fields: &[u8], into: &mut ReplaceOrder)
         style: CrossStyle::of(fields[46]).unwrap(),
         peg: Peg::of(fields[47]).unwrap(),
         lots: Lots::of(fields[58]).unwrap(),
-    };
+    }
 }
 
 // Reads all that follows the first byte.
-pub(crate) fn read_replace(fields: &[u8], into: &mut ReplaceOrder) -> Result<(), ReadRefusal>
-    ensures answer { λ r. ⌜ r ≡ fieldsVerdict replaceType replaceFields (now (fields .entry)) ⌝ }
-    ensures filled { λ r. ⌜ Cases r (λ _. now (fields .entry) ≡ bytesOf replaceFields (now (into .exit))) (λ _. now (into .exit) ≡ now (into .entry)) ⌝ }
+pub(crate) fn read_replace(fields: &[u8]) -> Result<ReplaceOrder, ReadRefusal>
+    ensures { λ r. ⌜ Reads replaceType replaceFields (now (fields .entry)) r ⌝ }
 {
     check_replace(fields)?;
-    fill_replace(fields, into);
-    Ok(())
+    Ok(take_replace(fields))
 }

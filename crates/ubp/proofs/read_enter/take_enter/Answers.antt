@@ -10,7 +10,7 @@ use Rattle.ubp.proofs.Layouts.{here, nine-on}
 use Rattle.ubp.proofs.Parts.{part, ends, copy-at, fill-at, number-at, signed-at, coded-at, code-at, copy-long, number-fits, signed-fits}
 use Rattle.ubp.proofs.Pegs.{constraint-some, may-state}
 use Rattle.ubp.proofs.Verdicts.{taken}
-use Rattle.ubp.proofs.read_enter.fill_enter.Needs as need
+use Rattle.ubp.proofs.read_enter.take_enter.Needs as need
 
 pub unwrap-requires : need.unwrap-requires
 unfolding enterFields
@@ -66,9 +66,9 @@ unwrap-requires-9 c κs =
     let f = c .args .fields .now in
     ap isSome (c .of-9 .ensures ∙ ap lotsOf (here 65 f)) ∙ taken enterType enterFields f 66 refl (c .pre .long) (c .pre .passed) 22
 
-pub ghost-into : need.ghost-into
+pub ghost-result : need.ghost-result
 unfolding enterFields
-ghost-into c =
+ghost-result c =
     let f = c .args .fields .now in
     let n : length f ≡ 66 = c .pre .long in
     let t = c .typed .fields in

@@ -9,7 +9,7 @@ use Rattle.ubp.specs.Commands.{replaceFields, replaceType}
 use Rattle.ubp.proofs.Layouts.{here}
 use Rattle.ubp.proofs.Parts.{part, ends, copy-at, fill-at, number-at, signed-at, coded-at, code-at}
 use Rattle.ubp.proofs.Verdicts.{taken}
-use Rattle.ubp.proofs.read_replace.fill_replace.Needs as need
+use Rattle.ubp.proofs.read_replace.take_replace.Needs as need
 
 pub unwrap-requires : need.unwrap-requires
 unfolding replaceFields
