@@ -3,7 +3,9 @@ ghost use Rattle.ubp.specs.Commands.{enterType, enterFields, replaceType, repl
 ghost use Rattle.ubp.specs.Formats.{message, messageSize};
 ghost use Rattle.ubp.specs.Frames.{encoded, commandSize};
 ghost use Rattle.ubp.specs.Theorems.{Taken, Told};
-ghost use Rattle.ubp.specs.Writing.{Writes};
+ghost use Rattle.ubp.specs.Writing.{Begun, Writes};
+ghost use Prim.Native.Nat.{_≤_};
+ghost use lib.ListN.{length, take};
 use crate::put::put;
 use crate::refusal::WriteRefusal;
 use orders::command::CancelOrder;
@@ -11,12 +13,11 @@ use orders::command::Command;
 use orders::command::ReplaceOrder;
 use orders::enter::EnterOrder;
 
-fn write_enter(order: &EnterOrder, out: &mut [u8]) -> Result<usize, WriteRefusal>
-    ensures { λ r. ⌜ Writes (messageSize enterFields) (message enterType enterFields (now (order .entry))) (now (out .entry)) (now (out .exit)) r ⌝ }
+// What is to be traded: the fields from the token to the firm.
+fn put_enter_trade(order: &EnterOrder, out: &mut [u8])
+    requires { ⌜ 38 ≤ length (now out) ⌝ }
+    ensures { λ _. ⌜ Begun 38 (message enterType (take 7 enterFields) (now (order .entry))) (now (out .entry)) (now (out .exit)) ⌝ }
 {
-    if out.len() < 67 {
-        return Err(WriteRefusal::ShortBuffer);
-    }
     let terms = &order.terms;
     put(out, 0, b"o");
     put(out, 1, &order.token);
@@ -26,6 +27,15 @@ fn write_enter(order: &EnterOrder, out: &mut [u8]) -> Result<usize, WriteRefusal
     put(out, 26, &order.price.to_be_bytes());
     put(out, 30, &terms.time.number().to_be_bytes());
     put(out, 34, &terms.firm);
+}
+
+// And on which terms: the fields up to the peg.
+fn put_enter_terms(order: &EnterOrder, out: &mut [u8])
+    requires { ⌜ 56 ≤ length (now out) ⌝ }
+    ensures { λ _. ⌜ Begun 56 (message enterType (take 18 enterFields) (now (order .entry))) (now (out .entry)) (now (out .exit)) ⌝ }
+{
+    let terms = &order.terms;
+    put_enter_trade(order, out);
     put(out, 38, b" ");
     put(out, 39, &[terms.capacity.byte()]);
     put(out, 40, b" ");
@@ -37,12 +47,34 @@ fn write_enter(order: &EnterOrder, out: &mut [u8]) -> Result<usize, WriteRefusal
     put(out, 49, b"     ");
     put(out, 54, &[terms.style.byte()]);
     put(out, 55, &[terms.peg.byte()]);
+}
+
+fn write_enter(order: &EnterOrder, out: &mut [u8]) -> Result<usize, WriteRefusal>
+    ensures { λ r. ⌜ Writes (messageSize enterFields) (message enterType enterFields (now (order .entry))) (now (out .entry)) (now (out .exit)) r ⌝ }
+{
+    if out.len() < 67 {
+        return Err(WriteRefusal::ShortBuffer);
+    }
+    put_enter_terms(order, out);
     put(out, 56, b" ");
     put(out, 57, &[0; 4]);
-    put(out, 61, &[terms.grade.number()]);
+    put(out, 61, &[order.terms.grade.number()]);
     put(out, 62, &[0; 4]);
-    put(out, 66, &[terms.lots.byte()]);
+    put(out, 66, &[order.terms.lots.byte()]);
     Ok(67)
+}
+
+// Which order becomes what: the fields from the tokens to the time in force.
+fn put_replace_trade(order: &ReplaceOrder, out: &mut [u8])
+    requires { ⌜ 41 ≤ length (now out) ⌝ }
+    ensures { λ _. ⌜ Begun 41 (message replaceType (take 5 replaceFields) (now (order .entry))) (now (out .entry)) (now (out .exit)) ⌝ }
+{
+    put(out, 0, b"u");
+    put(out, 1, &order.existing);
+    put(out, 15, &order.token);
+    put(out, 29, &order.shares.to_be_bytes());
+    put(out, 33, &order.price.to_be_bytes());
+    put(out, 37, &order.time.number().to_be_bytes());
 }
 
 fn write_replace(order: &ReplaceOrder, out: &mut [u8]) -> Result<usize, WriteRefusal>
@@ -51,12 +83,7 @@ fn write_replace(order: &ReplaceOrder, out: &mut [u8]) -> Result<usize, WriteRef
     if out.len() < 60 {
         return Err(WriteRefusal::ShortBuffer);
     }
-    put(out, 0, b"u");
-    put(out, 1, &order.existing);
-    put(out, 15, &order.token);
-    put(out, 29, &order.shares.to_be_bytes());
-    put(out, 33, &order.price.to_be_bytes());
-    put(out, 37, &order.time.number().to_be_bytes());
+    put_replace_trade(order, out);
     put(out, 41, b" ");
     put(out, 42, b" ");
     put(out, 43, &order.minimum.to_be_bytes());

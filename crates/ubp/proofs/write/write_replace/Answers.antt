@@ -1,15 +1,11 @@
-use borrow.Author.Needs.{needs}
-use mathlib.Core.Path.{_≡_, refl, ap, _∙_}
+use mathlib.Core.Path.{refl, ap}
 use mathlib.Core.List.{[], _∷_}
-use lib.ListN.{length, replicate}
-use mir.Val.{ofZ, SFits}
-use mir.Syntax.{w32}
-use Rattle.std.proofs.shelf.Signed.{toZ-ofZ}
-use Rattle.orders.specs.Codes.{timeNumber, styleByte, pegByte, lotsByte}
+use lib.ListN.{replicate, take, drop}
+use Rattle.orders.specs.Codes.{styleByte, pegByte, lotsByte}
 use Rattle.ubp.specs.Bytes.{bytes4}
 use Rattle.ubp.specs.Commands.{replaceType, replaceFields}
 use Rattle.ubp.proofs.Layouts.{after}
-use Rattle.ubp.proofs.Parts.{begin, more, more-by, short, wrote}
+use Rattle.ubp.proofs.Parts.{more, more-by, short, wrote}
 use Rattle.ubp.proofs.write.write_replace.Needs as need
 
 pub returns-then-out-lt60 : need.returns-then-out-lt60
@@ -20,24 +16,15 @@ pub returns : need.returns
 unfolding replaceFields
 returns c =
     let m = c .args .order .now in
-    let h1 : length (m .existing) ≡ 14 = search needs in
-    let h2 : length (m .token) ≡ 14 = search needs in
-    let p : SFits w32 (m .price) = search needs in
-    let w0 = begin (c .args .out .now) in
-    let w1 = more 1 (replaceType ∷ []) w0 refl (c .put .ensures) in
-    let w2 = more 14 (m .existing) w1 h1 (c .put-2 .ensures) in
-    let w3 = more 14 (m .token) w2 h2 (c .put-3 .ensures) in
-    let w4 = more-by 4 (bytes4 (m .shares)) w3 (c .to-be-bytes .ensures) refl (c .put-4 .ensures) in
-    let w5 = more-by 4 (bytes4 (ofZ w32 (m .price))) w4 (c .to-be-bytes-2 .ensures ∙ ap (λ z. bytes4 (ofZ w32 z)) (toZ-ofZ w32 (m .price) p)) refl (c .put-5 .ensures) in
-    let w6 = more-by 4 (bytes4 (timeNumber (m .time))) w5 (c .to-be-bytes-3 .ensures ∙ ap bytes4 (c .number .ensures)) refl (c .put-6 .ensures) in
-    let w7 = more 1 (replicate 1 32) w6 refl (c .put-7 .ensures) in
+    let w0 = c .put-replace-trade .ensures in
+    let w1 = more 1 (replicate 1 32) w0 refl (c .put .ensures) in
+    let w2 = more 1 (replicate 1 32) w1 refl (c .put-2 .ensures) in
+    let w3 = more-by 4 (bytes4 (m .minimum)) w2 (c .to-be-bytes .ensures) refl (c .put-3 .ensures) in
+    let w4 = more-by 1 (styleByte (m .style) ∷ []) w3 (ap (λ b. b ∷ []) (c .byte .ensures)) refl (c .put-4 .ensures) in
+    let w5 = more-by 1 (pegByte (m .peg) ∷ []) w4 (ap (λ b. b ∷ []) (c .byte-2 .ensures)) refl (c .put-5 .ensures) in
+    let w6 = more 1 (replicate 1 32) w5 refl (c .put-6 .ensures) in
+    let w7 = more 4 (replicate 4 0) w6 refl (c .put-7 .ensures) in
     let w8 = more 1 (replicate 1 32) w7 refl (c .put-8 .ensures) in
-    let w9 = more-by 4 (bytes4 (m .minimum)) w8 (c .to-be-bytes-4 .ensures) refl (c .put-9 .ensures) in
-    let w10 = more-by 1 (styleByte (m .style) ∷ []) w9 (ap (λ b. b ∷ []) (c .byte .ensures)) refl (c .put-10 .ensures) in
-    let w11 = more-by 1 (pegByte (m .peg) ∷ []) w10 (ap (λ b. b ∷ []) (c .byte-2 .ensures)) refl (c .put-11 .ensures) in
-    let w12 = more 1 (replicate 1 32) w11 refl (c .put-12 .ensures) in
-    let w13 = more 4 (replicate 4 0) w12 refl (c .put-13 .ensures) in
-    let w14 = more 1 (replicate 1 32) w13 refl (c .put-14 .ensures) in
-    let w15 = more 4 (replicate 4 0) w14 refl (c .put-15 .ensures) in
-    let w16 = more-by 1 (lotsByte (m .lots) ∷ []) w15 (ap (λ b. b ∷ []) (c .byte-3 .ensures)) refl (c .put-16 .ensures) in
-    wrote (c .if-out-lt60 .left) w16 (after replaceType [] replaceFields m refl)
+    let w9 = more 4 (replicate 4 0) w8 refl (c .put-9 .ensures) in
+    let w10 = more-by 1 (lotsByte (m .lots) ∷ []) w9 (ap (λ b. b ∷ []) (c .byte-3 .ensures)) refl (c .put-10 .ensures) in
+    wrote (c .if-out-lt60 .left) w10 (after replaceType (take 5 replaceFields) (drop 5 replaceFields) m refl)
