@@ -23,7 +23,7 @@ abbrev pub firstBad : List (ℕ × Bool) → Verdict
 firstBad [] = Ok tt
 firstBad (t ∷ ts) = cond (t .1) (firstBad ts) (Err (BadField (t .0)))
 
--- on a frame of type b that goes on with f
+-- the verdict on a frame of type b that goes on with f
 abbrev pub fieldsVerdict : {C : Type 0} → ℕ → List (Field C) → List ℕ → Verdict
 fieldsVerdict b fs f = cond (eqb (length f) (sizeOf fs)) (firstBad (tests 1 fs (b ∷ f))) (Err WrongLength)
 
@@ -31,7 +31,7 @@ fieldsVerdict b fs f = cond (eqb (length f) (sizeOf fs)) (firstBad (tests 1 fs (
 abbrev pub Reads : {C : Type 0} → ℕ → List (Field C) → List ℕ → Result C ReadRefusal → Type 0
 Reads b fs f r = Cases r (λ c. (Ok tt ≡ fieldsVerdict b fs f) × (f ≡ bytesOf fs c)) (λ e. Err e ≡ fieldsVerdict b fs f)
 
--- on any bytes: the first byte chooses the command, and the rest are its fields
+-- the verdict on any bytes: the first byte chooses the command, and the rest are its fields
 abbrev pub verdict : List ℕ → Verdict
 verdict [] = Err WrongLength
 verdict (b ∷ f) =
