@@ -1,4 +1,5 @@
 // Replays a session file: reads each frame, says what it means and writes it back; then who of those that sent orders may meet whom, and who goes ahead.
+#![tactic(auto)]
 
 mod answers;
 mod counts;

@@ -1,4 +1,6 @@
 // Who may meet whom: what every policy means, and the policies that brokers use.
+#![tactic(auto)]
+
 ghost use Rattle.std.specs.Prelude.{◌≡◌, Bool};
 ghost use Rattle.orders.specs.declared.party.Party.{Party};
 

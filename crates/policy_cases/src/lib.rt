@@ -1,4 +1,6 @@
 // Hand-made cases for the policies. The crate has nothing but tests.
+#![tactic(auto)]
+
 #[cfg(test)]
 mod bans;
 #[cfg(test)]

@@ -1,4 +1,6 @@
 // Who goes ahead: what every ranking means, and the rankings that brokers use.
+#![tactic(auto)]
+
 ghost use Rattle.std.specs.Prelude.{◌≡◌, Bool, true, false, not, ◌≢◌};
 ghost use Rattle.ranking.specs.declared.offer.Offer.{Offer};
 

@@ -7,8 +7,8 @@ use crate::offer::Offer;
 
 // How many of the offers are ahead of this one. At place 0 it is ahead of all others, whatever the ranking.
 pub fn place_in_line<R: Ranking>(ranking: &R, offers: &[Offer], offer: &Offer) -> usize
-    ensures count { result ≡ ahead_of (ahead ranking.now) offers.now offer.now }
-    ensures front { result ≡ 0 → InFront (ahead ranking.now) offers.now offer.now }
+    ensures count { result ≡ ahead_of (R.ahead ranking.now) offers.now offer.now }
+    ensures front { result ≡ 0 → InFront (R.ahead ranking.now) offers.now offer.now }
 {
     let mut place = 0;
     for other in offers {

@@ -1,4 +1,5 @@
 // Replays a session file: reads each frame, says what it means and writes it back.
+#![tactic(auto)]
 
 mod answers;
 mod counts;

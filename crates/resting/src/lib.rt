@@ -1,4 +1,6 @@
 // What lies in the book: resting orders and quotes, each with the key that a list finds it by.
+#![tactic(auto)]
+
 pub mod party;
 pub mod quote;
 pub mod resident;

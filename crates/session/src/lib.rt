@@ -1,4 +1,6 @@
 // The text of a session file: what each of its lines says.
+#![tactic(auto)]
+
 pub mod fault;
 pub mod file;
 pub mod hex;

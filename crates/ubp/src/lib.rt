@@ -1,4 +1,6 @@
 // UBP messages: the reader of commands, the writer of commands and the writer of slips.
+#![tactic(auto)]
+
 mod fields;
 mod put;
 pub mod read;

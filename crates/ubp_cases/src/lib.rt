@@ -1,4 +1,6 @@
 // Hand-made cases for the reader and the writers of UBP messages: every expected byte and offset is written out from the formats. The crate has nothing but tests.
+#![tactic(auto)]
+
 #[cfg(test)]
 mod answer_bytes;
 #[cfg(test)]

@@ -1,4 +1,6 @@
 // Commands, answers, parties and refusals in words, for people, and the lines by which engines are compared.
+#![tactic(auto)]
+
 pub mod command;
 mod fields;
 pub mod lines;

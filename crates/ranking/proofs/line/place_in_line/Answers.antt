@@ -5,16 +5,16 @@ use Rattle.ranking.specs.Rankings.{ahead_of}
 use Rattle.ranking.specs.declared.offer.Offer.{Offer}
 use Rattle.ranking.proofs.Fronts.{in_front}
 use Rattle.ranking.proofs.line.place_in_line.Goals as goal
-use Rattle.ranking.proofs.line.place_in_line.Goals.{then-is-ahead, else-is-ahead}
+use Rattle.ranking.proofs.line.place_in_line.Goals.{then-is_ahead, else-is_ahead}
 
 pub loop-other-preserved : goal.loop-other-preserved
 loop-other-preserved g c =
     let is-ahead = λ (other : Offer). g.R.Ranking.ahead c.args.ranking.now other c.args.offer.now in
     let offers = c.args.offers.now in
     let i = c.loop-other.other-index in
-    elim c.if-is-ahead.branch [
-      | then-is-ahead w ↦ let more = count_by_more_yes is-ahead offers i _ c.loop-other-test.true (sym w.if-is-ahead.ensures) in (omega (arith, w.place-is, c.loop-other.invariant.0, more), omega (arith, w.place-is))
-      | else-is-ahead w ↦ let more = count_by_more_no is-ahead offers i _ c.loop-other-test.true (sym w.if-is-ahead.ensures) in (w.place-is ∙ c.loop-other.invariant.0 ∙ sym more, omega (arith, w.place-is))
+    elim c.if-is_ahead.branch [
+      | then-is_ahead w ↦ let more = count_by_more_yes is-ahead offers i _ c.loop-other-test.true (sym w.if-is-ahead.ensures) in (omega (arith, w.place-is, c.loop-other.invariant.0, more), omega (arith, w.place-is))
+      | else-is_ahead w ↦ let more = count_by_more_no is-ahead offers i _ c.loop-other-test.true (sym w.if-is-ahead.ensures) in (w.place-is ∙ c.loop-other.invariant.0 ∙ sym more, omega (arith, w.place-is))
     ]
 
 pub returns : goal.returns

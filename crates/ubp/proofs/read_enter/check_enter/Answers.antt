@@ -19,10 +19,10 @@ returns c =
     let f = c.args.fields.now in
     record {
       answer = right_length enter_type enter_fields f 66 refl c.if-fields-ne66.false
-          (c.first-bad.ensures
+          (c.first_bad.ensures
           ∙ ap first_bad
-          (test 15 (c.is-some.ensures ∙ ap is_some (c.of.ensures ∙ ap side_of (here 14 f)))
-          (test 30 (c.is-some-2.ensures ∙ ap is_some (c.of-2.ensures ∙ ap time_of (c.number.ensures ∙ ap big4 (take_rest f 29))))
+          (test 15 (c.is_some.ensures ∙ ap is_some (c.of.ensures ∙ ap side_of (here 14 f)))
+          (test 30 (c.is_some-2.ensures ∙ ap is_some (c.of-2.ensures ∙ ap time_of (c.number.ensures ∙ ap big4 (take_rest f 29))))
           (test 38 c.filled.ensures
           (test 39 (c.is-some-3.ensures ∙ ap is_some (c.of-3.ensures ∙ ap capacity_of (here 38 f)))
           (test 40 c.filled-2.ensures
@@ -39,5 +39,5 @@ returns c =
           (test 62 c.filled-8.ensures
           (test 66 (c.is-some-8.ensures ∙ ap is_some (c.of-8.ensures ∙ ap lots_of (here 65 f)))
           no_test))))))))))))))))));
-      long = in_any_case c.first-bad.result c.if-fields-ne66.false;
+      long = in_any_case c.first_bad.result c.if-fields-ne66.false;
     }

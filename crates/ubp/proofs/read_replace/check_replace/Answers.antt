@@ -19,12 +19,12 @@ returns c =
     let f = c.args.fields.now in
     record {
       answer = right_length replace_type replace_fields f 59 refl c.if-fields-ne59.false
-          (c.first-bad.ensures
+          (c.first_bad.ensures
           ∙ ap first_bad
-          (test 37 (c.is-some.ensures ∙ ap is_some (c.of.ensures ∙ ap time_of (c.number.ensures ∙ ap big4 (take_rest f 36))))
+          (test 37 (c.is_some.ensures ∙ ap is_some (c.of.ensures ∙ ap time_of (c.number.ensures ∙ ap big4 (take_rest f 36))))
           (test 41 c.filled.ensures
           (test 42 c.filled-2.ensures
-          (test 47 (c.is-some-2.ensures ∙ ap is_some (c.of-2.ensures ∙ ap style_of (here 46 f)))
+          (test 47 (c.is_some-2.ensures ∙ ap is_some (c.of-2.ensures ∙ ap style_of (here 46 f)))
           (test 48 (c.is-some-3.ensures ∙ ap is_some (c.of-3.ensures ∙ ap peg_of (here 47 f)))
           (test 49 c.filled-3.ensures
           (test 50 c.filled-4.ensures
@@ -32,5 +32,5 @@ returns c =
           (test 55 c.filled-6.ensures
           (test 59 (c.is-some-4.ensures ∙ ap is_some (c.of-4.ensures ∙ ap lots_of (here 58 f)))
           no_test)))))))))));
-      long = in_any_case c.first-bad.result c.if-fields-ne59.false;
+      long = in_any_case c.first_bad.result c.if-fields-ne59.false;
     }

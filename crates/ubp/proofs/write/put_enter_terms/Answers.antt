@@ -10,11 +10,11 @@ pub returns : goal.returns
 unfolding enter_fields
 returns c =
     let m = c.args.order.now in
-    let w0 = c.put-enter-trade.ensures in
+    let w0 = c.put_enter_trade.ensures in
     let w1 = more 1 (replicate 1 32) w0 refl c.put.ensures in
     let w2 = more_by 1 (capacity_byte m.terms.capacity ∷ []) w1 (ap (λ b. b ∷ []) c.byte.ensures) refl c.put-2.ensures in
     let w3 = more 1 (replicate 1 32) w2 refl c.put-3.ensures in
-    let w4 = more_by 4 (bytes4 m.terms.minimum) w3 c.to-be-bytes.ensures refl c.put-4.ensures in
+    let w4 = more_by 4 (bytes4 m.terms.minimum) w3 c.to_be_bytes.ensures refl c.put-4.ensures in
     let w5 = more 1 (replicate 1 32) w4 refl c.put-5.ensures in
     let w6 = more_by 1 (constraint_byte m.terms.constraint ∷ []) w5 (ap (λ b. b ∷ []) c.byte-2.ensures) refl c.put-6.ensures in
     let w7 = more 1 (replicate 1 32) w6 refl c.put-7.ensures in

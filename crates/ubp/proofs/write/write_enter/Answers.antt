@@ -13,7 +13,7 @@ pub returns : goal.returns
 unfolding enter_fields
 returns c =
     let m = c.args.order.now in
-    let w0 = c.put-enter-terms.ensures in
+    let w0 = c.put_enter_terms.ensures in
     let w1 = more 1 (replicate 1 32) w0 refl c.put.ensures in
     let w2 = more 4 (replicate 4 0) w1 refl c.put-2.ensures in
     let w3 = more_by 1 (grade_number m.terms.grade ∷ []) w2 (ap (λ b. b ∷ []) c.number.ensures) refl c.put-3.ensures in

@@ -14,10 +14,10 @@ pub returns : goal.returns
 unfolding replace_fields
 returns c =
     let m = c.args.order.now in
-    let w0 = c.put-replace-trade.ensures in
+    let w0 = c.put_replace_trade.ensures in
     let w1 = more 1 (replicate 1 32) w0 refl c.put.ensures in
     let w2 = more 1 (replicate 1 32) w1 refl c.put-2.ensures in
-    let w3 = more_by 4 (bytes4 m.minimum) w2 c.to-be-bytes.ensures refl c.put-3.ensures in
+    let w3 = more_by 4 (bytes4 m.minimum) w2 c.to_be_bytes.ensures refl c.put-3.ensures in
     let w4 = more_by 1 (style_byte m.style ∷ []) w3 (ap (λ b. b ∷ []) c.byte.ensures) refl c.put-4.ensures in
     let w5 = more_by 1 (peg_byte m.peg ∷ []) w4 (ap (λ b. b ∷ []) c.byte-2.ensures) refl c.put-5.ensures in
     let w6 = more 1 (replicate 1 32) w5 refl c.put-6.ensures in

@@ -11,5 +11,5 @@ pub returns : goal.returns
 unfolding head_fields
 returns c =
     let s = c.args.slip.now in
-    let w0 = c.put-head.ensures in
+    let w0 = c.put_head.ensures in
     wrote c.if-out-lt23.false w0 refl

@@ -14,7 +14,7 @@ returns c =
     let xs = held c.args.self.now in
     let m = c.args.one in
     let n = c.args.other in
-    let is : banned xs m n ≡ false = sym c.if-is-banned.ensures in
+    let is : banned xs m n ≡ false = sym c.if-is_banned.ensures in
     let done = c.add.ensures in
     record {
       pairs = simp is done.pairs;

@@ -12,4 +12,4 @@ pub loop-i-preserved : goal.loop-i-preserved
 loop-i-preserved c =
     let was = c.args.self.now in
     let long : length was.pairs ≡ 64 = was.room in
-    banned_more was.pairs c.loop-i.i _ _ _ (omega (arith, was.few)) c.loop-i.invariant (sym c.if-is-of.ensures)
+    banned_more was.pairs c.loop-i.i _ _ _ (omega (arith, was.few)) c.loop-i.invariant (sym c.if-is_of.ensures)
