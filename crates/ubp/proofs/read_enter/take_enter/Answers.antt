@@ -68,7 +68,7 @@ unfolding enter_fields
 invariant-of-result c =
     let f = c.args.fields.now in
     let n : length f ≡ 66 = c.requires.long in
-    let t = c.type-inv.fields in
+    let t = c.type_inv.fields in
     let ok = taken enter_type enter_fields f 66 refl c.requires.long c.requires.passed in (
       may_state_holds (get_or f 45 0) (get_or f 54 0) (nine_on 45 f beside_peg ∙ ok 12) (sym c.of-4.ensures ∙ c.unwrap-4.ensures) (sym c.of-7.ensures ∙ c.unwrap-7.ensures),
       (
@@ -85,7 +85,7 @@ unfolding enter_fields
 returns c =
     let f = c.args.fields.now in
     let n : length f ≡ 66 = c.requires.long in
-    let t = c.ok.fields in
+    let t = c.type_inv.fields in
     let ok = taken enter_type enter_fields f 66 refl n c.requires.passed in
     part 0 14 f (copy_at 0 14 f c.bytes.ensures)
     (part 14 1 f (code_at side_byte sides 14 f (omega arith) (sym c.of.ensures ∙ c.unwrap.ensures))
