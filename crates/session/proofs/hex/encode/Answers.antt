@@ -12,7 +12,7 @@ loop-byte-preserved c =
     (c.push.ensures.ascii c.digit_of.ensures.ascii)
     (c.push-in-loop-byte.ensures.ascii c.digit_of-in-loop-byte.ensures.ascii)
     c.in_ok-push.ensures.bytes
-    c.in-ok-push-2.ensures.bytes
+    c.in_ok-push-2.ensures.bytes
     c.loop-byte.invariant
 
 pub returns : goal.returns
@@ -20,4 +20,4 @@ returns c =
     let whole = sym (append-nil (string_bytes c.loop-byte.text))
     ∙ ap (λ t. string_bytes c.loop-byte.text ++ t) (sym (at_drop_all hex_text c.args.bytes.now c.loop-byte.byte-index c.loop-byte-test.false))
     ∙ c.loop-byte.invariant in
-    record { text = whole; again = ap hex_bytes whole ∙ decodes c.args.bytes.now (λ i. omega (arith, c.ok.bytes i)) }
+    record { text = whole; again = ap hex_bytes whole ∙ decodes c.args.bytes.now (λ i. omega (arith, c.type_inv.bytes i)) }

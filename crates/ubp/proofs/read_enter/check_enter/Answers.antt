@@ -24,20 +24,20 @@ returns c =
           (test 15 (c.is_some.ensures ∙ ap is_some (c.of.ensures ∙ ap side_of (here 14 f)))
           (test 30 (c.is_some-2.ensures ∙ ap is_some (c.of-2.ensures ∙ ap time_of (c.number.ensures ∙ ap big4 (take_rest f 29))))
           (test 38 c.filled.ensures
-          (test 39 (c.is-some-3.ensures ∙ ap is_some (c.of-3.ensures ∙ ap capacity_of (here 38 f)))
+          (test 39 (c.is_some-3.ensures ∙ ap is_some (c.of-3.ensures ∙ ap capacity_of (here 38 f)))
           (test 40 c.filled-2.ensures
           (test 45 c.filled-3.ensures
-          (test 46 (c.may-stand.ensures ∙ nine_on 45 f beside_peg)
+          (test 46 (c.may_stand.ensures ∙ nine_on 45 f beside_peg)
           (test 47 c.filled-4.ensures
-          (test 48 (c.is-some-4.ensures ∙ ap is_some (c.of-4.ensures ∙ ap leaves_of (here 47 f)))
+          (test 48 (c.is_some-4.ensures ∙ ap is_some (c.of-4.ensures ∙ ap leaves_of (here 47 f)))
           (test 49 c.filled-5.ensures
-          (test 54 (c.is-some-5.ensures ∙ ap is_some (c.of-5.ensures ∙ ap style_of (here 53 f)))
-          (test 55 (c.is-some-6.ensures ∙ ap is_some (c.of-6.ensures ∙ ap peg_of (here 54 f)))
+          (test 54 (c.is_some-5.ensures ∙ ap is_some (c.of-5.ensures ∙ ap style_of (here 53 f)))
+          (test 55 (c.is_some-6.ensures ∙ ap is_some (c.of-6.ensures ∙ ap peg_of (here 54 f)))
           (test 56 c.filled-6.ensures
           (test 57 c.filled-7.ensures
-          (test 61 (c.is-some-7.ensures ∙ ap is_some (c.of-7.ensures ∙ ap grade_of (here 60 f)))
+          (test 61 (c.is_some-7.ensures ∙ ap is_some (c.of-7.ensures ∙ ap grade_of (here 60 f)))
           (test 62 c.filled-8.ensures
-          (test 66 (c.is-some-8.ensures ∙ ap is_some (c.of-8.ensures ∙ ap lots_of (here 65 f)))
+          (test 66 (c.is_some-8.ensures ∙ ap is_some (c.of-8.ensures ∙ ap lots_of (here 65 f)))
           no_test))))))))))))))))));
       long = in_any_case c.first_bad.result c.if-fields-ne66.false;
     }

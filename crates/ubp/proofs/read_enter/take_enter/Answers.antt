@@ -63,29 +63,26 @@ unwrap-requires-9 c =
     let f = c.args.fields.now in
     ap is_some (c.of-9.ensures ∙ ap lots_of (here 65 f)) ∙ taken enter_type enter_fields f 66 refl c.requires.long c.requires.passed 22
 
-pub invariant-of-result : goal.invariant-of-result
+pub invariant_of-result : goal.invariant_of-result
 unfolding enter_fields
-invariant-of-result c =
+invariant_of-result c =
     let f = c.args.fields.now in
     let n : length f ≡ 66 = c.requires.long in
-    let t = c.type-inv.fields in
-    let ok = taken enter_type enter_fields f 66 refl c.requires.long c.requires.passed in (
-      may_state_holds (get_or f 45 0) (get_or f 54 0) (nine_on 45 f beside_peg ∙ ok 12) (sym c.of-4.ensures ∙ c.unwrap-4.ensures) (sym c.of-7.ensures ∙ c.unwrap-7.ensures),
-      (
-        (copy_long 0 14 f (omega arith) c.bytes.ensures, copy_long 19 6 f (omega arith) c.bytes-2.ensures, copy_long 33 4 f (omega arith) c.bytes-3.ensures),
-        (
-          (number_fits 15 f t (omega arith) c.number.ensures, number_fits 40 f t (omega arith) c.number-3.ensures),
-          (signed_fits 25 f t (omega arith) c.signed.ensures, tt),
-        ),
-      ),
-    )
+    let t = c.type_inv.fields in
+    let ok = taken enter_type enter_fields f 66 refl c.requires.long c.requires.passed in
+    record {
+      pegged = may_state_holds (get_or f 45 0) (get_or f 54 0) (nine_on 45 f beside_peg ∙ ok 12) (sym c.of-4.ensures ∙ c.unwrap-4.ensures) (sym c.of-7.ensures ∙ c.unwrap-7.ensures);
+      sized = (copy_long 0 14 f (omega arith) c.bytes.ensures, copy_long 19 6 f (omega arith) c.bytes-2.ensures, copy_long 33 4 f (omega arith) c.bytes-3.ensures);
+      fits = (number_fits 15 f t (omega arith) c.number.ensures, number_fits 40 f t (omega arith) c.number-3.ensures);
+      priced = signed_fits 25 f t (omega arith) c.signed.ensures;
+    }
 
 pub returns : goal.returns
 unfolding enter_fields
 returns c =
     let f = c.args.fields.now in
     let n : length f ≡ 66 = c.requires.long in
-    let t = c.ok.fields in
+    let t = c.type_inv.fields in
     let ok = taken enter_type enter_fields f 66 refl n c.requires.passed in
     part 0 14 f (copy_at 0 14 f c.bytes.ensures)
     (part 14 1 f (code_at side_byte sides 14 f (omega arith) (sym c.of.ensures ∙ c.unwrap.ensures))

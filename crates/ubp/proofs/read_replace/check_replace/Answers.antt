@@ -25,12 +25,12 @@ returns c =
           (test 41 c.filled.ensures
           (test 42 c.filled-2.ensures
           (test 47 (c.is_some-2.ensures ∙ ap is_some (c.of-2.ensures ∙ ap style_of (here 46 f)))
-          (test 48 (c.is-some-3.ensures ∙ ap is_some (c.of-3.ensures ∙ ap peg_of (here 47 f)))
+          (test 48 (c.is_some-3.ensures ∙ ap is_some (c.of-3.ensures ∙ ap peg_of (here 47 f)))
           (test 49 c.filled-3.ensures
           (test 50 c.filled-4.ensures
           (test 54 c.filled-5.ensures
           (test 55 c.filled-6.ensures
-          (test 59 (c.is-some-4.ensures ∙ ap is_some (c.of-4.ensures ∙ ap lots_of (here 58 f)))
+          (test 59 (c.is_some-4.ensures ∙ ap is_some (c.of-4.ensures ∙ ap lots_of (here 58 f)))
           no_test)))))))))));
       long = in_any_case c.first_bad.result c.if-fields-ne59.false;
     }

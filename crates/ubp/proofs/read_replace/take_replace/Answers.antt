@@ -37,7 +37,7 @@ unfolding replace_fields
 returns c =
     let f = c.args.fields.now in
     let n : length f ≡ 59 = c.requires.long in
-    let t = c.ok.fields in
+    let t = c.type_inv.fields in
     let ok = taken replace_type replace_fields f 59 refl n c.requires.passed in
     part 0 14 f (copy_at 0 14 f c.bytes.ensures)
     (part 14 14 f (copy_at 14 14 f c.bytes-2.ensures)
