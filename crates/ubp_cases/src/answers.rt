@@ -10,7 +10,6 @@ use orders::fields::{
 };
 use orders::slip::{Letter, OldOrder, Slip, SlipKind};
 use std::process::Abort;
-use std::test::Fail;
 
 const TERMS: Terms = Terms {
     side: Side::SellShortExempt,
@@ -76,24 +75,22 @@ pub(crate) fn slip(kind: SlipKind, letter: Letter, terms: Option<Terms>) -> Slip
 }
 
 // The slip is written as the message with another byte at an offset.
-fn is_told(rt: &impl Abort, slip: &Slip, message: &[u8], at: usize, byte: u8) -> Result<(), Fail> {
+fn is_told(rt: &impl Abort, slip: &Slip, message: &[u8], at: usize, byte: u8) {
+    let case = format_args!("letter {byte} at {at}");
     let mut expected = [0; 100];
     put(&mut expected, 0, message);
     put(&mut expected, at, &[byte]);
     match expected.get(0..message.len()) {
-        Some(told) => slip_is_written(rt, slip, told),
-        None => Err(Fail::new("a long message")),
+        Some(told) => slip_is_written(rt, slip, told, &case),
+        None => panic!(rt; "{case}: a long message"),
     }
 }
 
 #[test]
-fn each_answer_is_written_byte_by_byte_with_each_letter(rt: HostRuntime) -> Result<(), Fail> {
+fn each_answer_is_written_byte_by_byte_with_each_letter(rt: HostRuntime) {
     for (kind, terms, message, at) in &ANSWERS {
         for (letter, byte) in &LETTERS {
-            is_told(&rt, &slip(*kind, *letter, *terms), message, *at, *byte).note(format_args!(
-                "letter {byte} at {at}"
-            ))?;
+            is_told(&rt, &slip(*kind, *letter, *terms), message, *at, *byte);
         }
     }
-    Ok(())
 }

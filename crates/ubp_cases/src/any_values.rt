@@ -1,8 +1,8 @@
 // Texts and numbers that the reader takes whatever they are.
 use crate::frames::{CANCEL, any_command, comes_back, enter_with, put, replace_with};
 use orders::command::Command;
+use std::fmt::Display;
 use std::process::Abort;
-use std::test::Fail;
 use ubp::read::read;
 
 // Bytes that are put into a frame, their offset, and the shares, the price and the minimum that it then has.
@@ -55,52 +55,64 @@ static REPLACES: [Numbers; 20] = [
 ];
 
 // The frame comes back, and is read as an order of these shares, price and minimum.
-fn has(rt: &impl Abort, frame: &[u8], shares: u32, price: i32, minimum: u32) -> Result<(), Fail> {
-    comes_back(rt, frame)?;
+fn has(rt: &impl Abort, frame: &[u8], shares: u32, price: i32, minimum: u32, case: &impl Display) {
+    comes_back(rt, frame, case);
     let mut command = any_command();
-    assert!(rt; read(frame, &mut command).is_ok());
+    assert!(rt; read(frame, &mut command).is_ok(), "{case}");
     match command {
-        Command::Enter(order) => {
-            assert!(rt;
-                order.shares == shares && order.price == price && order.terms.minimum == minimum
-            );
-            Ok(())
-        },
-        Command::Replace(order) => {
-            assert!(rt; order.shares == shares && order.price == price && order.minimum == minimum);
-            Ok(())
-        },
-        Command::Cancel(_) => Err(Fail::new("a cancel has no numbers")),
+        Command::Enter(order) => assert!(rt;
+            order.shares == shares && order.price == price && order.terms.minimum == minimum,
+            "{case}"
+        ),
+        Command::Replace(order) => assert!(rt;
+            order.shares == shares && order.price == price && order.minimum == minimum,
+            "{case}"
+        ),
+        Command::Cancel(_) => panic!(rt; "{case}: a cancel has no numbers"),
     }
 }
 
 #[test]
-fn any_price_shares_and_minimum_are_read(rt: HostRuntime) -> Result<(), Fail> {
+fn any_price_shares_and_minimum_are_read(rt: HostRuntime) {
     for (at, bytes, shares, price, minimum) in &ENTERS {
-        has(&rt, &enter_with(*at, bytes), *shares, *price, *minimum).note(format_args!(
-            "enter, {bytes:?} at {at}"
-        ))?;
+        let case = format_args!("enter, {bytes:?} at {at}");
+        has(
+            &rt,
+            &enter_with(*at, bytes),
+            *shares,
+            *price,
+            *minimum,
+            &case,
+        );
     }
     for (at, bytes, shares, price, minimum) in &REPLACES {
-        has(&rt, &replace_with(*at, bytes), *shares, *price, *minimum).note(format_args!(
-            "replace, {bytes:?} at {at}"
-        ))?;
+        let case = format_args!("replace, {bytes:?} at {at}");
+        has(
+            &rt,
+            &replace_with(*at, bytes),
+            *shares,
+            *price,
+            *minimum,
+            &case,
+        );
     }
-    Ok(())
 }
 
 #[test]
-fn token_stock_and_firm_are_any_bytes(rt: HostRuntime) -> Result<(), Fail> {
+fn token_stock_and_firm_are_any_bytes(rt: HostRuntime) {
     for byte in [0x00, 0x20, 0xFF] {
         let texts = [byte; 28];
         let mut enter = enter_with(1, &texts[0..14]);
         put(&mut enter, 20, &texts[0..6]);
         put(&mut enter, 34, &texts[0..4]);
-        comes_back(&rt, &enter)?;
-        comes_back(&rt, &replace_with(1, &texts))?;
+        comes_back(&rt, &enter, &format_args!("enter, {byte}"));
+        comes_back(
+            &rt,
+            &replace_with(1, &texts),
+            &format_args!("replace, {byte}"),
+        );
         let mut cancel = CANCEL;
         put(&mut cancel, 1, &texts[0..14]);
-        comes_back(&rt, &cancel)?;
+        comes_back(&rt, &cancel, &format_args!("cancel, {byte}"));
     }
-    Ok(())
 }

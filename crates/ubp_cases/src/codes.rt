@@ -8,7 +8,6 @@ use orders::fields::{
     Capacity, Constraint, CrossStyle, InviteGrade, LeavesMode, Lots, Peg, Side, Terms, TimeInForce,
 };
 use orders::slip::{Letter, SlipKind};
-use std::test::Fail;
 use ubp::read::read;
 
 // The offsets of side, time in force, capacity, cross style, peg, round lot, invite grade, constraint and leaves mode.
@@ -184,22 +183,21 @@ fn put_each(message: &mut [u8], places: &[usize], bytes: &[u8]) {
 }
 
 #[test]
-fn each_code_is_read(rt: HostRuntime) -> Result<(), Fail> {
+fn each_code_is_read(rt: HostRuntime) {
     for (codes, terms) in &CODED {
         let mut frame = ENTER;
         put_each(&mut frame, &ENTER_PLACES, codes);
         let mut command = any_command();
-        assert!(rt; read(&frame, &mut command).is_ok());
+        assert!(rt; read(&frame, &mut command).is_ok(), "{codes:?}");
         let Command::Enter(order) = command else {
-            return Err(Fail::new("no enter"));
+            panic!(rt; "{codes:?}: no enter");
         };
         assert!(rt; same_terms(&order.terms, terms), "{codes:?}");
     }
-    Ok(())
 }
 
 #[test]
-fn each_code_is_told(rt: HostRuntime) -> Result<(), Fail> {
+fn each_code_is_told(rt: HostRuntime) {
     for (codes, terms) in &CODED {
         let mut accepted = ACCEPTED;
         put_each(&mut accepted, &ACCEPTED_PLACES, codes);
@@ -207,14 +205,15 @@ fn each_code_is_told(rt: HostRuntime) -> Result<(), Fail> {
             &rt,
             &slip(SlipKind::Accepted, Letter::Live, Some(*terms)),
             &accepted,
-        )?;
+            &format_args!("accepted, {codes:?}"),
+        );
         let mut replaced = REPLACED;
         put_each(&mut replaced, &REPLACED_PLACES, codes);
         slip_is_written(
             &rt,
             &slip(SlipKind::Replaced, Letter::Live, Some(*terms)),
             &replaced,
-        )?;
+            &format_args!("replaced, {codes:?}"),
+        );
     }
-    Ok(())
 }

@@ -6,7 +6,6 @@ use orders::command::Command;
 use orders::fields::{
     Capacity, Constraint, CrossStyle, InviteGrade, LeavesMode, Lots, Peg, Side, Terms, TimeInForce,
 };
-use std::test::Fail;
 use ubp::read::read;
 
 const TERMS: Terms = Terms {
@@ -25,27 +24,26 @@ const TERMS: Terms = Terms {
 };
 
 #[test]
-fn enter_is_read_field_by_field_and_written(rt: HostRuntime) -> Result<(), Fail> {
+fn enter_is_read_field_by_field_and_written(rt: HostRuntime) {
     let mut command = any_command();
     assert!(rt; read(&ENTER, &mut command).is_ok());
-    command_is_written(&rt, &command, &ENTER)?;
+    command_is_written(&rt, &command, &ENTER, &"enter");
     let Command::Enter(order) = command else {
-        return Err(Fail::new("no enter"));
+        panic!(rt; "no enter");
     };
     assert!(rt;
         order.token == *b"ENTER-TOKEN-01" && order.shares == 263_430 && order.price == 500_100
     );
     assert!(rt; same_terms(&order.terms, &TERMS));
-    Ok(())
 }
 
 #[test]
-fn replace_is_read_field_by_field_and_written(rt: HostRuntime) -> Result<(), Fail> {
+fn replace_is_read_field_by_field_and_written(rt: HostRuntime) {
     let mut command = any_command();
     assert!(rt; read(&REPLACE, &mut command).is_ok());
-    command_is_written(&rt, &command, &REPLACE)?;
+    command_is_written(&rt, &command, &REPLACE, &"replace");
     let Command::Replace(order) = command else {
-        return Err(Fail::new("no replace"));
+        panic!(rt; "no replace");
     };
     assert!(rt; order.existing == *b"ENTER-TOKEN-01" && order.token == *b"REPL--TOKEN-02");
     assert!(rt; order.shares == 460_809 && order.price == 1_000_100 && order.minimum == 131_844);
@@ -55,17 +53,15 @@ fn replace_is_read_field_by_field_and_written(rt: HostRuntime) -> Result<(), Fai
             && order.peg == Peg::Primary
             && order.lots == Lots::AnyLot
     );
-    Ok(())
 }
 
 #[test]
-fn cancel_is_read_and_written(rt: HostRuntime) -> Result<(), Fail> {
+fn cancel_is_read_and_written(rt: HostRuntime) {
     let mut command = any_command();
     assert!(rt; read(&CANCEL, &mut command).is_ok());
-    command_is_written(&rt, &command, &CANCEL)?;
+    command_is_written(&rt, &command, &CANCEL, &"cancel");
     let Command::Cancel(order) = command else {
-        return Err(Fail::new("no cancel"));
+        panic!(rt; "no cancel");
     };
     assert_eq!(rt; order.token, *b"REPL--TOKEN-02");
-    Ok(())
 }

@@ -1,8 +1,8 @@
 // The hand-made frames of the three commands, a line for each field, and what the cases do with a frame.
 use crate::buffers::{UNTOUCHED, written};
 use orders::command::{CancelOrder, Command};
+use std::fmt::Display;
 use std::process::Abort;
-use std::test::Fail;
 use ubp::read::read;
 use ubp::refusal::ReadRefusal;
 use ubp::write::write;
@@ -61,17 +61,17 @@ pub(crate) fn any_command() -> Command {
 }
 
 // The command is written as the message, and past it nothing is touched.
-fn is_written_as(rt: &impl Abort, command: &Command, message: &[u8]) -> Result<(), Fail> {
+fn is_written_as(rt: &impl Abort, command: &Command, message: &[u8], case: &impl Display) {
     let mut out = [UNTOUCHED; 100];
     let answer = write(command, &mut out);
-    written(rt, answer, &out, message)
+    written(rt, answer, &out, message, case);
 }
 
 // The frame is read, and what is read is written as the same bytes.
-pub(crate) fn comes_back(rt: &impl Abort, frame: &[u8]) -> Result<(), Fail> {
+pub(crate) fn comes_back(rt: &impl Abort, frame: &[u8], case: &impl Display) {
     let mut command = any_command();
-    assert!(rt; read(frame, &mut command).is_ok(), "it is refused");
-    is_written_as(rt, &command, frame)
+    assert!(rt; read(frame, &mut command).is_ok(), "{case}: it is refused");
+    is_written_as(rt, &command, frame, case);
 }
 
 // The frame is refused with this number, and for the field at this offset if for a field, and a command that the caller holds stays as it was.
@@ -80,19 +80,20 @@ pub(crate) fn is_refused(
     frame: &[u8],
     number: u32,
     field: Option<usize>,
-) -> Result<(), Fail> {
+    case: &impl Display,
+) {
     let mut command = any_command();
-    assert!(rt; read(&REPLACE, &mut command).is_ok());
+    assert!(rt; read(&REPLACE, &mut command).is_ok(), "{case}");
     let Err(refused) = read(frame, &mut command) else {
-        return Err(Fail::new("it is read"));
+        panic!(rt; "{case}: it is read");
     };
-    assert_eq!(rt; refused.number(), number);
+    assert_eq!(rt; refused.number(), number, "{case}");
     let offset = match refused {
         ReadRefusal::BadField(offset) => Some(offset),
         _ => None,
     };
-    assert_eq!(rt; offset, field);
-    is_written_as(rt, &command, &REPLACE)
+    assert_eq!(rt; offset, field, "{case}");
+    is_written_as(rt, &command, &REPLACE, case);
 }
 
 // Puts bytes into a frame from an offset on.

@@ -1,7 +1,6 @@
 // Frames with a wrong field: the refusal carries the offset where the lowest wrong field starts.
 use crate::frames::{CANCEL, REPLACE, comes_back, enter_with, is_refused, put};
 use std::process::Abort;
-use std::test::Fail;
 
 // The bytes of one field, from the first to the last, and what each of them may be: any byte where nothing is listed.
 type Field = (usize, usize, &'static [u8]);
@@ -89,47 +88,45 @@ fn every_value_is_tried(
     at: usize,
     lawful: &[u8],
     field: usize,
-) -> Result<(), Fail> {
+    name: &str,
+) {
     let right = frame.get(at).copied().unwrap_or(0);
     for byte in 0..=255u8 {
         put(frame, at, &[byte]);
-        let tried = if lawful.is_empty() || lawful.contains(&byte) {
-            comes_back(rt, frame)
+        let case = format_args!("{name}: {byte} at {at}");
+        if lawful.is_empty() || lawful.contains(&byte) {
+            comes_back(rt, frame, &case);
         } else {
-            is_refused(rt, frame, 13, Some(field))
-        };
-        tried.note(format_args!("{byte} at {at}"))?;
-    }
-    put(frame, at, &[right]);
-    Ok(())
-}
-
-fn every_byte_is_tried(rt: &impl Abort, frame: &mut [u8], fields: &[Field]) -> Result<(), Fail> {
-    for (first, last, lawful) in fields {
-        for at in *first..=*last {
-            every_value_is_tried(rt, frame, at, lawful, *first)?;
+            is_refused(rt, frame, 13, Some(field), &case);
         }
     }
-    Ok(())
+    put(frame, at, &[right]);
+}
+
+fn every_byte_is_tried(rt: &impl Abort, frame: &mut [u8], fields: &[Field], name: &str) {
+    for (first, last, lawful) in fields {
+        for at in *first..=*last {
+            every_value_is_tried(rt, frame, at, lawful, *first, name);
+        }
+    }
 }
 
 #[test]
-fn each_field_takes_its_list_and_nothing_else(rt: HostRuntime) -> Result<(), Fail> {
+fn each_field_takes_its_list_and_nothing_else(rt: HostRuntime) {
     let mut enter = enter_with(30, &[0; 4]);
     put(&mut enter, 46, b" ");
-    every_byte_is_tried(&rt, &mut enter, &ENTER_FIELDS).note("enter")?;
+    every_byte_is_tried(&rt, &mut enter, &ENTER_FIELDS, "enter");
     let mut replace = REPLACE;
-    every_byte_is_tried(&rt, &mut replace, &REPLACE_FIELDS).note("replace")?;
+    every_byte_is_tried(&rt, &mut replace, &REPLACE_FIELDS, "replace");
     let mut cancel = CANCEL;
-    every_byte_is_tried(&rt, &mut cancel, &CANCEL_FIELDS).note("cancel")
+    every_byte_is_tried(&rt, &mut cancel, &CANCEL_FIELDS, "cancel");
 }
 
 #[test]
-fn the_lowest_wrong_field_is_told(rt: HostRuntime) -> Result<(), Fail> {
+fn the_lowest_wrong_field_is_told(rt: HostRuntime) {
     for (i, byte, j, other, field) in &WRONG_PAIRS {
         let mut enter = enter_with(*i, &[*byte]);
         put(&mut enter, *j, &[*other]);
-        is_refused(&rt, &enter, 13, Some(*field)).note(format_args!("{i} and {j}"))?;
+        is_refused(&rt, &enter, 13, Some(*field), &format_args!("{i} and {j}"));
     }
-    Ok(())
 }
