@@ -36,12 +36,12 @@ impl Key for OrderKey {
 
     ghost symmetric = { λ x y h.
         let p = and_parts _ _ h in
-        and_from _ _ (eq-eqb y.client x.client (sym (eqb-true _ _ p.0))) (bytes-sym x.token y.token p.1) };
+        and_from _ _ (eq-eqb y.client x.client (sym (eqb-true _ _ p.0))) (bytes_sym x.token y.token p.1) };
 
     ghost transitive = { λ x y z h k.
         let p = and_parts _ _ h in
         let q = and_parts _ _ k in
-        and_from _ _ (eq-eqb x.client z.client (eqb-true _ _ p.0 ∙ eqb-true _ _ q.0)) (bytes-trans x.token y.token z.token p.1 q.1) };
+        and_from _ _ (eq-eqb x.client z.client (eqb-true _ _ p.0 ∙ eqb-true _ _ q.0)) (bytes_trans x.token y.token z.token p.1 q.1) };
 
     fn is_same(&self, other: &OrderKey) -> bool {
         let same_client = self.client == other.client;
