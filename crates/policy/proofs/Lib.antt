@@ -1,1 +1,2 @@
+pub mod Banned
 pub mod Settings

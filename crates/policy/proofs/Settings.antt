@@ -1,5 +1,5 @@
 -- What a setting of a grid means for each two categories.
-use Rattle.std.proofs.Common.{◌≡◌, ℕ, Bool, true, false, cond, ◌&&◌, Some, None, Ok, Err, Option, refl, ap, ◌∙◌, inl, inr, arith}
+use Rattle.std.proofs.Common.{◌≡◌, ℕ, Bool, true, false, cond, Some, None, Ok, Err, Option, refl, ap, inl, inr, arith}
 use mathlib.Core.Bool.{and-false}
 use Rattle.std.proofs.lemmas.Bool.{cases_Bool, false≢true}
 use Rattle.std.proofs.lemmas.Bool.Decides.{nat_tests}
@@ -8,7 +8,7 @@ use Rattle.orders.specs.declared.party.Category.{Category}
 use Rattle.orders.specs.declared.party.Category.TheVariants.{One, Two, Three, Four, Five}
 use Rattle.policy.specs.declared.per_category.PerCategory.{PerCategory}
 use Rattle.policy.specs.PerCategory.{at, with}
-use Rattle.policy.specs.Grid.{Meetings, meets, set_meets, after_setting, setting_answer, numbers, OnlySet}
+use Rattle.policy.specs.Grid.{Meetings, set_meets, after_setting, setting_answer, numbers, OnlySet}
 use Rattle.policy.specs.declared.refusal.PolicyRefusal.TheVariants.{NoCategory}
 
 -- what is written for a category is read there, and what was there is read elsewhere

@@ -3,4 +3,4 @@ pub mod Styles
 pub mod Bans
 pub mod PerCategory
 pub mod Grid
-pub mod Banned
+pub mod Turned

@@ -2,7 +2,7 @@
 ghost use Rattle.std.specs.Prelude.{◌≡◌, Bool, false, not, [], is_ok};
 ghost use Rattle.std.proofs.Common.{ap};
 ghost use Rattle.policy.specs.Bans.{pairs_up, held, blank, PastKept, banned, bans_allow, ban_answer, after_ban, NowBanned, added, add_answer};
-ghost use Rattle.policy.specs.Banned.{banned_turned};
+ghost use Rattle.policy.specs.Turned.{banned_turned};
 
 use super::{Bans, ClientPair};
 use crate::Policy;

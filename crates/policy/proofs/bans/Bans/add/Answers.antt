@@ -1,7 +1,7 @@
 use Rattle.std.proofs.Common.{◌+◌, refl, arith}
 use Rattle.std.proofs.lemmas.List.{drop-set-lt}
 use Rattle.std.proofs.lemmas.Bool.{true≢false}
-use Rattle.policy.specs.Banned.{few_held, all_held, add_holds}
+use Rattle.policy.proofs.Banned.{few_held, all_held, add_holds}
 use Rattle.policy.proofs.bans.Bans.add.Goals as goal
 
 pub returns-then-self-ge64 : goal.returns-then-self-ge64

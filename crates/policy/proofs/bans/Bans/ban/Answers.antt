@@ -1,12 +1,12 @@
 use Rattle.std.proofs.Common.{◌≡◌, true, false, sym, refl}
 use Rattle.std.proofs.lemmas.Bool.{true≢false}
 use Rattle.policy.specs.Bans.{held, banned}
-use Rattle.policy.specs.Banned.{held_means, added_means}
+use Rattle.policy.proofs.Banned.{held_means, added_means}
 use Rattle.policy.proofs.bans.Bans.ban.Goals as goal
 
-pub returns-then-is-banned : goal.returns-then-is-banned
-returns-then-is-banned c =
-    let is : banned (held c.args.self.now) c.args.one c.args.other ≡ true = sym c.if-is-banned.ensures in
+pub returns-then-is_banned : goal.returns-then-is_banned
+returns-then-is_banned c =
+    let is : banned (held c.args.self.now) c.args.one c.args.other ≡ true = sym c.if-is_banned.ensures in
     record { pairs = simp is; answer = simp is; past = refl; means = held_means (held c.args.self.now) c.args.one c.args.other is; refused = λ e. absurd (true≢false e) }
 
 pub returns : goal.returns

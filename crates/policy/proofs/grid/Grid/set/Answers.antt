@@ -1,16 +1,16 @@
-use Rattle.std.proofs.Common.{◌≡◌, sym, refl, ◌∙◌, subst}
+use Rattle.std.proofs.Common.{sym, refl, ◌∙◌, subst}
 use Rattle.orders.specs.Codes.{category_of}
 use Rattle.policy.specs.Grid.{Meetings, OnlySet}
 use Rattle.policy.proofs.Settings.{setting_means, both_named, other_unnamed}
 use Rattle.policy.proofs.grid.Grid.set.Goals as goal
 
-pub returns-in-default-of : goal.returns-in-default-of
-returns-in-default-of g c =
+pub returns-in_default-of : goal.returns-in_default-of
+returns-in_default-of g c =
     let rows = c.args.self.now.rows in
     let m = c.args.category in
     let n = c.args.other in
     let on = c.args.on in
-    let now = other_unnamed rows on (category_of m) (category_of n) c.in-Some.from (sym c.in-Some.ensures) (sym c.in-default-of.ensures) in
+    let now = other_unnamed rows on (category_of m) (category_of n) c.in-Some.from (sym c.in-Some.ensures) (sym c.in_default-of.ensures) in
     record { rows = now.0; means = subst (λ (r : Meetings). OnlySet rows m n on r) (sym now.0) (setting_means rows m n on); below = refl; answer = now.1 }
 
 pub returns : goal.returns

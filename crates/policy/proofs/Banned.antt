@@ -1,20 +1,17 @@
--- What is banned by a list that grows at its end, by a pair turned round, and after a ban.
-use Rattle.std.specs.Prelude.{◌≡◌, ℕ, zero, suc, ◌+◌, ◌<◌, ◌≤◌, Bool, true, false, ◌&&◌, ◌||◌, ◌⊎◌, List, [], ◌∷◌, ◌++◌, length, take, is_ok, nat_lt, slice_index_or, slice_set, refl}
-use Rattle.std.proofs.Common.{sym, ap, subst, ◌∙◌, inl, inr, arith}
+-- What is banned by a list that grows at its end, and after a ban.
+use Rattle.std.specs.Prelude.{◌≡◌, ℕ, zero, suc, ◌+◌, ◌<◌, ◌≤◌, true, false, ◌||◌, List, [], ◌∷◌, ◌++◌, length, take, is_ok, nat_lt, slice_index_or, slice_set}
+use Rattle.std.proofs.Common.{ap, ◌∙◌, inl, inr, arith}
 use Rattle.std.proofs.Math.Bool.{or_comm}
 use Rattle.std.proofs.lemmas.Bool.Decides.{nat_tests}
 use Rattle.std.proofs.lemmas.Bool.{or_left, or_right, lt-ltb, le-ltb, cases_Bool}
 use Rattle.std.proofs.lemmas.List.{take_more, take_more_set, length-take-le}
-use Rattle.policy.specs.Bans.{banned, pairs_up, added, add_answer, after_ban, ban_answer, NowBanned}
+use Rattle.policy.specs.Bans.{banned, pairs_up, added, add_answer, NowBanned}
+use Rattle.policy.specs.Turned.{banned_turned}
 use Rattle.policy.specs.declared.bans.ClientPair.{ClientPair}
 
 pub banned_push : (xs : List ClientPair) (x : ClientPair) (m n : ℕ) → banned (xs ++ (x ∷ [])) m n ≡ (banned xs m n || pairs_up x m n)
 banned_push [] x m n = or_comm (pairs_up x m n) false
 banned_push (y ∷ ys) x m n = ap (λ b. pairs_up y m n || b) (banned_push ys x m n) ∙ grind arith
-
-pub banned_turned : (xs : List ClientPair) (m n : ℕ) → banned xs m n ≡ banned xs n m
-banned_turned [] m n = refl
-banned_turned (x ∷ xs) m n = ap (λ b. pairs_up x m n || b) (banned_turned xs m n) ∙ grind arith
 
 pub banned_at : (xs : List ClientPair) (i k : ℕ) (d : ClientPair) (m n : ℕ) → i < length xs → i < k → pairs_up (slice_index_or xs i d) m n ≡ true → banned (take k xs) m n ≡ true
 banned_at [] i k d m n h l e = absurd (omega arith)
