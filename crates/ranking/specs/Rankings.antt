@@ -1,6 +1,6 @@
 -- Who is ahead of whom, under each ranking, and how many are ahead of an offer.
 use Rattle.std.specs.Prelude.{◌≡◌, ℕ, Bool, true, not, ◌&&◌, ◌||◌, List, count_by, ◌==◌, ◌≢◌, int_lt, nat_lt}
-use Rattle.std.specs.List.{AllByRecursion as All}
+use Rattle.std.specs.List.{AllByRecursion}
 use Rattle.ranking.specs.declared.offer.Offer.{Offer}
 
 abbrev pub keener : Offer → Offer → Bool
@@ -37,4 +37,4 @@ ahead_of ahead offers offer = count_by (λ other. ahead other offer) offers
 
 -- the offer is ahead of all those with other numbers
 abbrev pub InFront : (Offer → Offer → Bool) → List Offer → Offer → Type 0
-InFront ahead offers offer = All (λ other. (offer.number ≢ other.number) → ahead offer other ≡ true) offers
+InFront ahead offers offer = AllByRecursion (λ other. (offer.number ≢ other.number) → ahead offer other ≡ true) offers

@@ -10,7 +10,6 @@ use Rattle.orders.specs.declared.command.ReplaceOrder.{ReplaceOrder}
 use Rattle.orders.specs.declared.command.CancelOrder.{CancelOrder}
 use Rattle.orders.specs.declared.command.Command.{Command}
 use Rattle.orders.specs.declared.command.Command.TheVariants.{Enter, Replace, Cancel}
-use Rattle.orders.specs.contracts.fields.Terms as terms
 use Rattle.orders.specs.contracts.enter.EnterOrder as enter
 use Rattle.orders.specs.contracts.command.ReplaceOrder as replace
 use Rattle.orders.specs.contracts.command.CancelOrder as cancel

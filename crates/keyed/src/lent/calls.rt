@@ -56,8 +56,8 @@ impl<'a, T: Keyed> List<'a, T> {
 
     // The first place whose record has the key, which is the only one where no key stands twice.
     pub fn find(&self, wanted: &T::Key) -> Option<usize>
-        ensures first { FirstAt (λ x. T.Key.Key.same (key x) wanted.now) (live self.now) result }
-        ensures only { NoTwice (λ x y. T.Key.Key.same (key x) (key y)) (live self.now) → OnlyAt (λ x. T.Key.Key.same (key x) wanted.now) (live self.now) result }
+        ensures first { FirstAt (λ x. T.Key.same (T.key x) wanted.now) (live self.now) result }
+        ensures only { NoTwice (λ x y. T.Key.same (T.key x) (T.key y)) (live self.now) → OnlyAt (λ x. T.Key.same (T.key x) wanted.now) (live self.now) result }
     {
         place_of(self.records(), wanted)
     }
@@ -65,9 +65,9 @@ impl<'a, T: Keyed> List<'a, T> {
     // Takes a record in at the end, unless its key is held or no place is left.
     pub fn push(&mut self, item: T) -> Result<(), NotPushed>
         ensures stays { Stays self.old self.new }
-        ensures answer { PushAnswer (λ x. T.Key.Key.same (key x) (key item)) (live self.old) (places self.old) result }
+        ensures answer { PushAnswer (λ x. T.Key.same (T.key x) (T.key item)) (live self.old) (places self.old) result }
         ensures records { live self.new ≡ (if is_ok result then live self.old ++ item ∷ [] else live self.old) }
-        ensures apart { KeepsApart (λ x y. T.Key.Key.same (key x) (key y)) (live self.old) (live self.new) }
+        ensures apart { KeepsApart (λ x y. T.Key.same (T.key x) (T.key y)) (live self.old) (live self.new) }
     {
         let wanted = item.key_of();
         if self.holds(&wanted) {
@@ -87,7 +87,7 @@ impl<'a, T: Keyed> List<'a, T> {
         ensures stays { Stays self.old self.new }
         ensures answer { Taken (live self.old) i result }
         ensures records { live self.new ≡ (if is_some result then remove (live self.old) i else live self.old) }
-        ensures apart { KeepsApart (λ x y. T.Key.Key.same (key x) (key y)) (live self.old) (live self.new) }
+        ensures apart { KeepsApart (λ x y. T.Key.same (T.key x) (T.key y)) (live self.old) (live self.new) }
     {
         let n = self.used();
         if i >= n {
@@ -104,7 +104,7 @@ impl<'a, T: Keyed> List<'a, T> {
         ensures stays { Stays self.old self.new }
         ensures answer { result ≡ nat_lt i (length (live self.old)) }
         ensures records { live self.new ≡ slice_set (live self.old) i item }
-        ensures apart { Replaces (λ x y. T.Key.Key.same (key x) (key y)) (live self.old) i item → KeepsApart (λ x y. T.Key.Key.same (key x) (key y)) (live self.old) (live self.new) }
+        ensures apart { Replaces (λ x y. T.Key.same (T.key x) (T.key y)) (live self.old) i item → KeepsApart (λ x y. T.Key.same (T.key x) (T.key y)) (live self.old) (live self.new) }
     {
         let n = self.used();
         if i >= n {
@@ -119,7 +119,7 @@ impl<'a, T: Keyed> List<'a, T> {
         ensures stays { Stays self.old self.new }
         ensures answer { result ≡ (nat_lt i (length (live self.old)) && nat_lt j (length (live self.old))) }
         ensures records { live self.new ≡ (if result then slice_set (slice_set (live self.old) i a) j b else live self.old) }
-        ensures apart { Replaces (λ x y. T.Key.Key.same (key x) (key y)) (live self.old) i a → Replaces (λ x y. T.Key.Key.same (key x) (key y)) (live self.old) j b → KeepsApart (λ x y. T.Key.Key.same (key x) (key y)) (live self.old) (live self.new) }
+        ensures apart { Replaces (λ x y. T.Key.same (T.key x) (T.key y)) (live self.old) i a → Replaces (λ x y. T.Key.same (T.key x) (T.key y)) (live self.old) j b → KeepsApart (λ x y. T.Key.same (T.key x) (T.key y)) (live self.old) (live self.new) }
     {
         if are_both_below(i, j, self.used()) {
             write_both(self.cells, i, a, j, b);
@@ -140,7 +140,7 @@ impl<'a, T: Keyed> List<'a, T> {
 
     // Whether some record has the key.
     fn holds(&self, wanted: &T::Key) -> bool
-        ensures { Holds (λ x. T.Key.Key.same (key x) wanted.now) (live self.now) result }
+        ensures { Holds (λ x. T.Key.same (T.key x) wanted.now) (live self.now) result }
     {
         match self.find(wanted) {
             Some(_) => true,

@@ -7,7 +7,7 @@ use crate::keys::{Key, Keyed};
 
 // The first place whose record has the key.
 pub(super) fn place_of<T: Keyed>(records: &[T], wanted: &T::Key) -> Option<usize>
-    ensures { FirstAt (λ x. T.Key.Key.same (key x) wanted.now) records.now result }
+    ensures { FirstAt (λ x. T.Key.same (T.key x) wanted.now) records.now result }
 {
     for i in 0..records.len() {
         let k = records[i].key_of();

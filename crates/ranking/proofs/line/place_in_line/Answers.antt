@@ -1,4 +1,4 @@
-use Rattle.std.proofs.Common.{◌≡◌, sym, ap, ◌∙◌, arith}
+use Rattle.std.proofs.Common.{sym, ap, ◌∙◌, arith}
 use Rattle.std.proofs.lemmas.List.{take_all}
 use Rattle.std.proofs.lemmas.List.Sums.{count_by_more_yes, count_by_more_no}
 use Rattle.ranking.specs.Rankings.{ahead_of}
@@ -13,8 +13,8 @@ loop-other-preserved g c =
     let offers = c.args.offers.now in
     let i = c.loop-other.other-index in
     elim c.if-is_ahead.branch [
-      | then-is_ahead w ↦ let more = count_by_more_yes is-ahead offers i _ c.loop-other-test.true (sym w.if-is-ahead.ensures) in (omega (arith, w.place-is, c.loop-other.invariant.0, more), omega (arith, w.place-is))
-      | else-is_ahead w ↦ let more = count_by_more_no is-ahead offers i _ c.loop-other-test.true (sym w.if-is-ahead.ensures) in (w.place-is ∙ c.loop-other.invariant.0 ∙ sym more, omega (arith, w.place-is))
+      | then-is_ahead w ↦ let more = count_by_more_yes is-ahead offers i _ c.loop-other-test.true (sym w.if-is_ahead.ensures) in (omega (arith, w.place-is, c.loop-other.invariant.0, more), omega (arith, w.place-is))
+      | else-is_ahead w ↦ let more = count_by_more_no is-ahead offers i _ c.loop-other-test.true (sym w.if-is_ahead.ensures) in (w.place-is ∙ c.loop-other.invariant.0 ∙ sym more, omega (arith, w.place-is))
     ]
 
 pub returns : goal.returns

@@ -8,25 +8,25 @@ use Rattle.keyed.proofs.lent.List.push.Goals as goal
 
 pub returns-then-holds : goal.returns-then-holds
 returns-then-holds g c =
-    let same = g.Key-as-Key.same in
+    let same = g.T.Key.Key.same in
     let key = g.T.Keyed.key in
     record {
       stays = search rules;
-      answer = subst (λ k. Has (λ x. same (key x) k) (live c.args.self.now)) c.key-of-wanted.ensures c.if-holds.ensures;
+      answer = subst (λ k. Has (λ x. same (key x) k) (live c.args.self.now)) c.key_of-wanted.ensures c.if-holds.ensures;
       records = search rules;
       apart = λ h. h;
     }
 
 pub returns : goal.returns
 returns g c =
-    let same = g.Key-as-Key.same in
+    let same = g.T.Key.Key.same in
     let key = g.T.Keyed.key in
     let l = c.args.self.now in
     let xs = l.cells.now in
     let n = c.used-n.result in
     let x = c.args.item in
-    let new = subst (λ k. Lacks (λ x. same (key x) k) (live l)) c.key-of-wanted.ensures c.if-holds.ensures in
-    let room : length (live l) < places l = leb-false _ _ (sym c.if-is-full.ensures) in
+    let new = subst (λ k. Lacks (λ x. same (key x) k) (live l)) c.key_of-wanted.ensures c.if-holds.ensures in
+    let room : length (live l) < places l = leb-false _ _ (sym c.if-is_full.ensures) in
     let within : n < length xs = omega arith in
     let size = length-set xs n x in
     let long : length (take (n + 1) (set xs n x)) ≡ n + 1 = length-take-le (n + 1) (set xs n x) (omega arith) in

@@ -1,4 +1,4 @@
-use Rattle.std.proofs.Common.{◌≡◌, ◌+◌, ◌-◌, ◌<◌, ◌≤◌, length, get_or, take, set, sym, refl, ap, ◌∙◌, arith, rules}
+use Rattle.std.proofs.Common.{◌<◌, length, set, sym, refl, arith, rules}
 use lib.Seq.{take-set-lt}
 use Rattle.std.proofs.lemmas.List.{length-take, set_past, drop-set-lt, length-set}
 use Rattle.std.proofs.lemmas.Bool.{lt-ltb, le-ltb}
@@ -18,7 +18,7 @@ returns-then-i-n g c =
 
 pub returns : goal.returns
 returns g c =
-    let same = g.Key-as-Key.same in
+    let same = g.T.Key.Key.same in
     let key = g.T.Keyed.key in
     let laws = g.met.T.Key.Key in
     let l = c.args.self.now in

@@ -6,8 +6,8 @@ use Rattle.keyed.specs.Lists.{live}
 use Rattle.keyed.proofs.Rows.{apart_both}
 use Rattle.keyed.proofs.lent.List.write_two.Goals as goal
 
-pub returns-then-are-both-below : goal.returns-then-are-both-below
-returns-then-are-both-below g c =
+pub returns-then-are_both_below : goal.returns-then-are_both_below
+returns-then-are_both_below g c =
     let l = c.args.self.now in
     let xs = l.cells.now in
     let i = c.args.i in
@@ -15,14 +15,14 @@ returns-then-are-both-below g c =
     let a = c.args.a in
     let b = c.args.b in
     let u = c.used.result in
-    let below = and_parts (ltb i u) (ltb j u) (sym c.if-are-both-below.ensures) in
+    let below = and_parts (ltb i u) (ltb j u) (sym c.if-are_both_below.ensures) in
     let below-i = ltb-true i u below.0 in
     let below-j = ltb-true j u below.1 in
     let n = length (live l) in
     let iin : i < n = omega arith in
     let jin : j < n = omega arith in
-    let ys = c.write-both.new.cells in
-    let was = c.write-both.ensures in
+    let ys = c.write_both.new.cells in
+    let was = c.write_both.ensures in
     let k = length (take l.len ys) in
     let size : length ys ≡ length xs = ap length was ∙ simp length-set in
     let p = length-take l.len xs in
@@ -31,7 +31,7 @@ returns-then-are-both-below g c =
     let twice = take-set-lt l.len (set xs i a) j b (omega arith) in
     let past = drop-set-lt k xs i a (omega arith) in
     let past-both = drop-set-lt k (set xs i a) j b (omega arith) in
-    let same = g.Key-as-Key.same in
+    let same = g.T.Key.Key.same in
     let key = g.T.Keyed.key in
     let laws = g.met.T.Key.Key in
     let shown : take l.len ys ≡ set (set (live l) i a) j b = cc in
