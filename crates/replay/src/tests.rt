@@ -6,7 +6,7 @@ use std::test::Fail;
 // The answer to the frame is this line.
 fn answers(rt: &(impl Abort + AllocGlobal), frame: &[u8], line: &str) -> Result<(), Fail> {
     let answer = line_of(rt.alloc(), frame)?;
-    assert!(rt; answer.as_str() == line, "{}", line);
+    assert!(rt; answer.as_str() == line, "{line}");
     Ok(())
 }
 

@@ -90,7 +90,7 @@ fn digits_of_both_cases(rt: HostRuntime) -> Result<(), Fail> {
 #[test]
 fn lines_that_say_something(rt: HostRuntime) -> Result<(), Fail> {
     for line in ["", " \t\r", "  # read 58"] {
-        assert!(rt; says_nothing(rt.alloc(), line.as_bytes())?, "{}", line);
+        assert!(rt; says_nothing(rt.alloc(), line.as_bytes())?, "{line}");
     }
     assert!(rt; reads(rt.alloc(), b"\tread  58fF # an X\r", &[0x58, 0xff])?);
     assert!(rt; reads(rt.alloc(), b"read 58#", &[0x58])?);
