@@ -64,7 +64,7 @@ impl<P> Grid<P> {
 }
 
 impl<P: Policy> Policy for Grid<P> {
-    ghost allowed = { λ g. grid_allows (P.Policy.allowed g.below) g.rows };
+    ghost allowed = { λ g. grid_allows (P.allowed g.below) g.rows };
 
     ghost symmetric = { Prim.search rules };
 
