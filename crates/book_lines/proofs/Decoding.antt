@@ -1,9 +1,8 @@
 -- What a loop that decodes has done, with what is left to do.
-use Rattle.std.proofs.Common.{◌≡◌, ℕ, ◌+◌, ◌-◌, ◌<◌, ◌≤◌, List, [], ◌∷◌, ◌++◌, length, get_or, take, drop, Some, None, Ok, Err, Option, Result, sym, refl, ap, ◌∙◌, append_assoc, append-nil, arith}
+use Rattle.std.proofs.Common.{◌≡◌, ℕ, ◌-◌, ◌≤◌, List, [], ◌∷◌, ◌++◌, length, get_or, take, drop, Some, Ok, Err, Result, sym, refl, ap, ◌∙◌, append_assoc, append-nil, arith}
 use Rattle.std.proofs.lemmas.List.{take_rest}
 use Rattle.book_lines.specs.declared.fault.LineFault.{LineFault}
-use Rattle.book_lines.specs.declared.fault.LineFault.TheVariants.{BadDigit, OddDigits}
-use Rattle.book_lines.specs.Hex.{before, byte_of, hex_bytes, hex_text, letter}
+use Rattle.book_lines.specs.Hex.{before, byte_of, hex_bytes}
 
 -- the answer where the bytes xs are decoded already, and the rest answers r
 abbrev pub after : List ℕ → Result (List ℕ) LineFault → Result (List ℕ) LineFault

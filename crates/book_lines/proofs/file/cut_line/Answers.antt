@@ -17,14 +17,14 @@ none text n e h = sym (drop_all (line_length text + 1) text (omega arith))
 
 pub returns-then-end-text : goal.returns-then-end-text
 returns-then-end-text c = record {
-  line = front c.args.text.now c.line-length-end.result c.line-length-end.ensures.value;
-  rest = past c.args.text.now c.line-length-end.result c.line-length-end.ensures.value;
-  shorter = less c.args.text.now c.line-length-end.result;
+  line = front c.args.text.now c.line_length-end.result c.line_length-end.ensures.value;
+  rest = past c.args.text.now c.line_length-end.result c.line_length-end.ensures.value;
+  shorter = less c.args.text.now c.line_length-end.result;
 }
 
 pub returns-else-end-text : goal.returns-else-end-text
 returns-else-end-text c = record {
-  line = front c.args.text.now c.line-length-end.result c.line-length-end.ensures.value;
-  rest = none c.args.text.now c.line-length-end.result c.line-length-end.ensures.value c.if-end-text.false;
+  line = front c.args.text.now c.line_length-end.result c.line_length-end.ensures.value;
+  rest = none c.args.text.now c.line_length-end.result c.line_length-end.ensures.value c.if-end-text.false;
   shorter = λ h. h;
 }

@@ -4,10 +4,10 @@ use Rattle.book_lines.specs.Scan.{empty}
 use Rattle.book_lines.proofs.Numerals.{stops, goes_on, ends, within_limit}
 use Rattle.book_lines.proofs.number.number.Goals as goal
 
-pub returns-in-default : goal.returns-in-default
-returns-in-default c =
+pub returns-in_default : goal.returns-in_default
+returns-in_default c =
     let some : empty c.args.word.now ≡ false = search rules in
-    let fault = stops c.args.word.now c.args.most c.loop-digit.value c.loop-digit.digit-index c.loop-digit-test.true c.in-default.ensures in
+    let fault = stops c.args.word.now c.args.most c.loop-digit.value c.loop-digit.digit-index c.loop-digit-test.true c.in_default.ensures in
     record { value = sym (cond-false (empty c.args.word.now) _ _ some ∙ sym c.loop-digit.invariant.1 ∙ fault); bound = tt }
 
 pub loop-digit-preserved : goal.loop-digit-preserved
