@@ -5,8 +5,8 @@ ghost use Rattle.ranking.specs.Rankings.{ahead_of, InFront};
 use crate::Ranking;
 use crate::offer::Offer;
 
-#[tactic(auto, using(crate::proofs::Fronts::in_front))]
 // How many of the offers are ahead of this one. At place 0 it is ahead of all others, whatever the ranking.
+#[tactic(auto, using(crate::proofs::Fronts::in_front))]
 pub fn place_in_line<R: Ranking>(ranking: &R, offers: &[Offer], offer: &Offer) -> usize
     ensures count { result ≡ ahead_of (R.ahead ranking.now) offers.now offer.now }
     ensures front { result ≡ 0 → InFront (R.ahead ranking.now) offers.now offer.now }
