@@ -10,6 +10,7 @@ use Rattle.orders.specs.declared.party.Category.TheVariants.{One, Two, Three, Fo
 use Rattle.policy.specs.PerCategory.{at}
 use Rattle.policy.specs.Grid.{Meetings, set_meets, OnlySet}
 
+-- the numbers are 1 to 5
 pub numbered : (c : Category) → (0 < category_number c) × (category_number c ≤ 5)
 numbered One = (omega arith, omega arith)
 numbered Two = (omega arith, omega arith)
@@ -17,10 +18,11 @@ numbered Three = (omega arith, omega arith)
 numbered Four = (omega arith, omega arith)
 numbered Five = (omega arith, omega arith)
 
+-- a setting by categories
 pub set_means : (rows : Meetings) (a b : Category) (on : Bool) → length rows ≡ 5 → length (at rows a []) ≡ 5 → OnlySet rows (category_number a) (category_number b) on (set_meets rows a b on)
 set_means rows a b on high wide x y = grind (arith, nat_tests, common_steps, numbered a, numbered b, numbered x, numbered y)
 
--- the number of a value that was found by it
+-- which code a value was found by
 coded_is : {V : Type 0} (code : V → ℕ) (vs : List V) (n : ℕ) (v : V) → coded code vs n ≡ Some v → n ≡ code v
 coded_is code [] n v e = cc
 coded_is code (w ∷ vs) n v e =
@@ -29,5 +31,6 @@ coded_is code (w ∷ vs) n v e =
       | inr not-w ↦ coded_is code vs n v (simp not-w at e)
     ]
 
+-- which number a category was found by
 pub number_of : (n : ℕ) (c : Category) → category_of n ≡ Some c → n ≡ category_number c
 number_of = coded_is category_number categories

@@ -36,6 +36,7 @@ impl<P> Grid<P> {
         self.rows[category as usize][other as usize]
     }
 
+    // `wide` is what the type of the rows says of the row that is written to.
     fn put(&mut self, category: Category, other: Category, on: bool)
         ensures rows { self.new.rows ≡ set_meets self.old.rows category other on }
         ensures below { self.new.below ≡ self.old.below }

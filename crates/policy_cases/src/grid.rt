@@ -7,18 +7,12 @@ use policy::styles::Styles;
 
 // Just the two categories are apart, if any.
 fn parts(grid: &Grid<Styles>, parted: Option<(Category, Category)>) -> bool {
-    for a in CATEGORIES {
-        for b in CATEGORIES {
-            let allowed = match parted {
-                Some((c, d)) => !(a == c && b == d || a == d && b == c),
-                None => true,
-            };
-            if both_ways(grid, &open_party(1, a), &open_party(2, b)) != Some(allowed) {
-                return false;
-            }
-        }
-    }
-    true
+    CATEGORIES.iter().all(|&a| {
+        CATEGORIES.iter().all(|&b| {
+            let allowed = parted != Some((a, b)) && parted != Some((b, a));
+            both_ways(grid, &open_party(1, a), &open_party(2, b)) == Some(allowed)
+        })
+    })
 }
 
 #[test]
