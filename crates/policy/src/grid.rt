@@ -46,6 +46,7 @@ impl<P> Grid<P> {
     }
 
     // Adds the other category to those that the first meets, or drops it. A number that is no category is refused, and nothing changes.
+    // The categories come as numbers, since it is a rule of the project that a number outside 1 to 5 is refused here, with 42.
     #[tactic(auto, using(crate::proofs::Settings::set_means, crate::proofs::Settings::number_of))]
     pub fn set(&mut self, category: u8, other: u8, on: bool) -> Result<(), PolicyRefusal>
         ensures rows { self.new.rows ≡ after_setting self.old.rows (category_of category) (category_of other) on }
@@ -53,8 +54,8 @@ impl<P> Grid<P> {
         ensures below { self.new.below ≡ self.old.below }
         ensures answer { result ≡ setting_answer (category_of category) (category_of other) }
     {
-        let from = Category::of(category).ok_or(PolicyRefusal::NoCategory)?;
-        let to = Category::of(other).ok_or(PolicyRefusal::NoCategory)?;
+        let from = Category::try_from(category).map_err(|_| PolicyRefusal::NoCategory)?;
+        let to = Category::try_from(other).map_err(|_| PolicyRefusal::NoCategory)?;
         self.put(from, to, on);
         Ok(())
     }
