@@ -14,6 +14,7 @@ pub mod price_time;
 mod tests;
 
 // A ranking is a relation between offers. A broker's own ranking gives its relation, shows the three laws and answers the question; whatever is proved of rankings then holds of it.
+// Rankings by a key are impls of their own and not one generic impl by key: each names its relation in the subject's words, and the search finds its laws.
 pub trait Ranking {
     // the first offer is ahead of the second, by what the ranking holds now
     ghost ahead: { Self → Offer → Offer → Bool };
