@@ -14,7 +14,7 @@ pub struct SlipWords<'a>(pub &'a Slip);
 impl SlipWords<'_> {
     fn show_head<W: fmt::Write>(&self, f: &mut fmt::Formatter<W>) -> fmt::Result {
         let slip = self.0;
-        let letter = slip.kind.byte() as char;
+        let letter = char::from(u8::from(slip.kind));
         let kind = slip.kind.words();
         writeln!(f, "  Answer {letter}: {kind}")?;
         show_field(f, "clock", &slip.clock)?;
@@ -24,7 +24,7 @@ impl SlipWords<'_> {
     // Why, or in which state.
     fn show_letter<W: fmt::Write>(&self, f: &mut fmt::Formatter<W>) -> fmt::Result {
         let letter = self.0.letter;
-        let code = letter.byte() as char;
+        let code = char::from(u8::from(letter));
         show_code(f, "letter", &code, letter)
     }
 

@@ -38,7 +38,7 @@ impl fmt::Display for LimitWords {
 
 impl fmt::Display for CrossWords {
     fn fmt<W: fmt::Write>(&self, f: &mut fmt::Formatter<W>) -> fmt::Result {
-        let letter = self.style.byte() as char;
+        let letter = char::from(u8::from(self.style));
         show_code(f, "cross style", &letter, self.style)?;
         show_words(f, "lots", self.lots)
     }
@@ -86,7 +86,7 @@ impl TermsWords<'_> {
     // Which conditional indications the order invites.
     pub(crate) fn show_grade<W: fmt::Write>(&self, f: &mut fmt::Formatter<W>) -> fmt::Result {
         let grade = self.0.grade;
-        let number = grade.number();
+        let number = u8::from(grade);
         show_code(f, "invite grade", &number, grade)
     }
 }
