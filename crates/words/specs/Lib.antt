@@ -1,2 +1,4 @@
 pub mod Fields
 pub mod Prices
+pub mod Counts
+pub mod Frames

@@ -1,13 +1,12 @@
 // Commands, one field to a line.
-use crate::fields::lots_words;
-use crate::show::show_field;
-use crate::terms::{
-    Limit, show_grade, show_leaves, show_limit, show_sender, show_style, show_trade,
-};
+use crate::terms::{CrossWords, LimitWords, TermsWords};
 use crate::text::TextWords;
 use orders::command::{CancelOrder, Command, ReplaceOrder};
 use orders::enter::EnterOrder;
 use std::fmt;
+
+// Room for the longest command.
+pub(crate) const COMMAND_ROOM: usize = 67;
 
 // A command in words.
 #[derive(Clone, Copy)]
@@ -15,28 +14,30 @@ pub struct CommandWords<'a>(pub &'a Command);
 
 fn show_enter<W: fmt::Write>(order: &EnterOrder, f: &mut fmt::Formatter<W>) -> fmt::Result {
     let token = TextWords(&order.token);
-    let terms = &order.terms;
     writeln!(f, "  Enter order {token}")?;
-    show_trade(terms, order.shares, order.price, f)?;
-    show_leaves(terms, f)?;
-    show_sender(terms, f)?;
-    show_grade(terms, f)
+    let terms = TermsWords(&order.terms);
+    terms.show_trade(order.shares, order.price, f)?;
+    terms.show_leaves(f)?;
+    terms.show_sender(f)?;
+    terms.show_grade(f)
 }
 
 fn show_replace<W: fmt::Write>(order: &ReplaceOrder, f: &mut fmt::Formatter<W>) -> fmt::Result {
     let existing = TextWords(&order.existing);
     let token = TextWords(&order.token);
     writeln!(f, "  Replace order {existing} -> {token}")?;
-    let limit = Limit {
+    let limit = LimitWords {
         shares: order.shares,
         price: order.price,
         peg: order.peg,
         time: order.time,
         minimum: order.minimum,
     };
-    show_limit(&limit, f)?;
-    show_style(order.style, f)?;
-    show_field(f, "lots", &lots_words(order.lots))
+    let cross = CrossWords {
+        style: order.style,
+        lots: order.lots,
+    };
+    write!(f, "{limit}{cross}")
 }
 
 fn show_cancel<W: fmt::Write>(order: &CancelOrder, f: &mut fmt::Formatter<W>) -> fmt::Result {

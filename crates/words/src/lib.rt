@@ -1,8 +1,12 @@
-// Commands, answers, parties and refusals in words, for people, and the lines by which engines are compared.
+// Commands, answers, parties, refusals and counts in words, for people, and the lines by which engines are compared.
 #![tactic(auto)]
 
 pub mod command;
+pub mod counts;
+pub mod examples;
 mod fields;
+pub mod frame;
+mod hex;
 pub mod lines;
 pub mod party;
 pub mod price;

@@ -1,10 +1,9 @@
 // The lines by which engines are compared.
+use crate::command::COMMAND_ROOM;
+use crate::hex::Hex;
 use std::fmt;
 use ubp::refusal::{ReadRefusal, Refusal};
 use ubp::restore::restore;
-
-// Room for the longest command.
-const ROOM: usize = 67;
 
 // What answers a frame that can't be read.
 #[derive(Clone, Copy)]
@@ -24,21 +23,13 @@ impl fmt::Display for RefusalLine {
     }
 }
 
-fn show_bytes<W: fmt::Write>(bytes: &[u8], f: &mut fmt::Formatter<W>) -> fmt::Result {
-    for byte in bytes {
-        let byte = *byte;
-        write!(f, "{byte:02x}")?;
-    }
-    Ok(())
-}
-
 impl fmt::Display for ReadLine<'_> {
     fn fmt<W: fmt::Write>(&self, f: &mut fmt::Formatter<W>) -> fmt::Result {
-        let mut out = [0; ROOM];
+        let mut out = [0; COMMAND_ROOM];
         match restore(self.0, &mut out) {
             Ok(length) => {
-                write!(f, "read ")?;
-                show_bytes(out.get(0..length).unwrap_or(&[]), f)
+                let hex = Hex(out.get(0..length).unwrap_or(&[]));
+                write!(f, "read {hex}")
             }
             Err(Refusal::Reading(refusal)) => {
                 let line = RefusalLine(refusal);

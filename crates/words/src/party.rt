@@ -1,5 +1,5 @@
 // Parties, a row to each.
-use crate::fields::capacity_words;
+use crate::fields::InWords;
 use orders::party::Party;
 use std::fmt;
 
@@ -14,7 +14,7 @@ impl fmt::Display for PartyRow {
     fn fmt<W: fmt::Write>(&self, f: &mut fmt::Formatter<W>) -> fmt::Result {
         let client = self.0.client;
         let category = u8::from(self.0.category);
-        let capacity = capacity_words(self.0.capacity);
+        let capacity = self.0.capacity.words();
         let style = char::from(u8::from(self.0.style));
         write!(f, "{client:>10}  {category:>8}  {capacity:<9}  {style:<5}")
     }

@@ -8,18 +8,20 @@ use std::fmt;
 // A number of ten-thousandths of a dollar, taken apart.
 #[derive(Clone, Copy)]
 pub struct Dollars {
+    // a price between 0 and -1 dollar has no other place for its sign
     pub negative: bool,
     pub whole: u32,
     pub parts: u32,
 }
 
-impl Dollars {
-    // Takes a price apart.
-    pub fn of(price: i32) -> Dollars
-        ensures value { signed result.negative (result.whole * 10000 + result.parts) ≡ price }
-        ensures small { result.parts < 10000 }
-        ensures sign { result.negative ≡ int_lt price (pos 0) }
-    {
+impl From<i32> for Dollars {
+    // the value, small parts and the sign
+    ghost from_gives = { λ price d.
+        (signed d.negative (d.whole * 10000 + d.parts) ≡ price)
+        × (d.parts < 10000)
+        × (d.negative ≡ int_lt price (pos 0)) };
+
+    fn from(price: i32) -> Dollars {
         let size = price.unsigned_abs();
         Dollars {
             negative: price < 0,
@@ -38,13 +40,12 @@ impl fmt::Display for PriceWords {
         if self.0 == NO_LIMIT {
             return write!(f, "no limit");
         }
-        let dollars = Dollars::of(self.0);
-        let whole = dollars.whole;
-        let parts = dollars.parts;
-        if dollars.negative {
-            write!(f, "-{whole}.{parts:04}")
-        } else {
-            write!(f, "{whole}.{parts:04}")
-        }
+        let Dollars {
+            negative,
+            whole,
+            parts,
+        } = Dollars::from(self.0);
+        let sign = if negative { "-" } else { "" };
+        write!(f, "{sign}{whole}.{parts:04}")
     }
 }

@@ -1,17 +1,13 @@
 // The terms of an order.
-use crate::fields::{
-    capacity_words, constraint_words, grade_words, leaves_words, lots_words, peg_words, side_words,
-    style_words, time_words,
-};
 use crate::price::PriceWords;
-use crate::show::{show_code, show_field};
+use crate::show::{show_code, show_field, show_words};
 use crate::text::TextWords;
-use orders::fields::{CrossStyle, Peg, Terms, TimeInForce};
+use orders::fields::{CrossStyle, Lots, Peg, Terms, TimeInForce};
 use std::fmt;
 
-// What an order and a replacement both state.
+// How much an order or a replacement trades, at what price and for how long.
 #[derive(Clone, Copy)]
-pub(crate) struct Limit {
+pub(crate) struct LimitWords {
     pub shares: u32,
     pub price: i32,
     pub peg: Peg,
@@ -19,58 +15,78 @@ pub(crate) struct Limit {
     pub minimum: u32,
 }
 
-// How much is to be traded, at what price and for how long.
-pub(crate) fn show_limit<W: fmt::Write>(limit: &Limit, f: &mut fmt::Formatter<W>) -> fmt::Result {
-    show_field(f, "shares", &limit.shares)?;
-    show_field(f, "price", &PriceWords(limit.price))?;
-    show_field(f, "peg", &peg_words(limit.peg))?;
-    show_field(f, "time in force", &time_words(limit.time))?;
-    show_field(f, "minimum", &limit.minimum)
+// With whom an order or a replacement may trade, and in what lots.
+#[derive(Clone, Copy)]
+pub(crate) struct CrossWords {
+    pub style: CrossStyle,
+    pub lots: Lots,
 }
 
-// What is to be traded.
-pub(crate) fn show_trade<W: fmt::Write>(
-    terms: &Terms,
-    shares: u32,
-    price: i32,
-    f: &mut fmt::Formatter<W>,
-) -> fmt::Result {
-    show_field(f, "side", &side_words(terms.side))?;
-    show_field(f, "stock", &TextWords(&terms.stock))?;
-    let limit = Limit {
-        shares,
-        price,
-        peg: terms.peg,
-        time: terms.time,
-        minimum: terms.minimum,
-    };
-    show_limit(&limit, f)
+// The terms of an order, which are told in parts.
+#[derive(Clone, Copy)]
+pub(crate) struct TermsWords<'a>(pub &'a Terms);
+
+impl fmt::Display for LimitWords {
+    fn fmt<W: fmt::Write>(&self, f: &mut fmt::Formatter<W>) -> fmt::Result {
+        show_field(f, "shares", &self.shares)?;
+        show_field(f, "price", &PriceWords(self.price))?;
+        show_words(f, "peg", self.peg)?;
+        show_words(f, "time in force", self.time)?;
+        show_field(f, "minimum", &self.minimum)
+    }
 }
 
-// What an order states beside its minimum and its peg.
-pub(crate) fn show_leaves<W: fmt::Write>(terms: &Terms, f: &mut fmt::Formatter<W>) -> fmt::Result {
-    show_field(f, "leaves mode", &leaves_words(terms.leaves))?;
-    show_field(f, "constraint", &constraint_words(terms.constraint))
+impl fmt::Display for CrossWords {
+    fn fmt<W: fmt::Write>(&self, f: &mut fmt::Formatter<W>) -> fmt::Result {
+        let letter = char::from(u8::from(self.style));
+        show_code(f, "cross style", &letter, self.style)?;
+        show_words(f, "lots", self.lots)
+    }
 }
 
-pub(crate) fn show_style<W: fmt::Write>(
-    style: CrossStyle,
-    f: &mut fmt::Formatter<W>,
-) -> fmt::Result {
-    let letter = char::from(u8::from(style));
-    show_code(f, "cross style", &letter, style_words(style))
-}
+impl TermsWords<'_> {
+    // What is to be traded.
+    pub(crate) fn show_trade<W: fmt::Write>(
+        &self,
+        shares: u32,
+        price: i32,
+        f: &mut fmt::Formatter<W>,
+    ) -> fmt::Result {
+        let terms = self.0;
+        show_words(f, "side", terms.side)?;
+        show_field(f, "stock", &TextWords(&terms.stock))?;
+        let limit = LimitWords {
+            shares,
+            price,
+            peg: terms.peg,
+            time: terms.time,
+            minimum: terms.minimum,
+        };
+        write!(f, "{limit}")
+    }
 
-// Who sends the order, and with whom it may trade.
-pub(crate) fn show_sender<W: fmt::Write>(terms: &Terms, f: &mut fmt::Formatter<W>) -> fmt::Result {
-    show_field(f, "firm", &TextWords(&terms.firm))?;
-    show_field(f, "capacity", &capacity_words(terms.capacity))?;
-    show_style(terms.style, f)?;
-    show_field(f, "lots", &lots_words(terms.lots))
-}
+    // What an order states beside its minimum and its peg.
+    pub(crate) fn show_leaves<W: fmt::Write>(&self, f: &mut fmt::Formatter<W>) -> fmt::Result {
+        show_words(f, "leaves mode", self.0.leaves)?;
+        show_words(f, "constraint", self.0.constraint)
+    }
 
-// Which conditional indications the order invites.
-pub(crate) fn show_grade<W: fmt::Write>(terms: &Terms, f: &mut fmt::Formatter<W>) -> fmt::Result {
-    let number = u8::from(terms.grade);
-    show_code(f, "invite grade", &number, grade_words(terms.grade))
+    // Who sends the order, and with whom it may trade.
+    pub(crate) fn show_sender<W: fmt::Write>(&self, f: &mut fmt::Formatter<W>) -> fmt::Result {
+        let terms = self.0;
+        show_field(f, "firm", &TextWords(&terms.firm))?;
+        show_words(f, "capacity", terms.capacity)?;
+        let cross = CrossWords {
+            style: terms.style,
+            lots: terms.lots,
+        };
+        write!(f, "{cross}")
+    }
+
+    // Which conditional indications the order invites.
+    pub(crate) fn show_grade<W: fmt::Write>(&self, f: &mut fmt::Formatter<W>) -> fmt::Result {
+        let grade = self.0.grade;
+        let number = u8::from(grade);
+        show_code(f, "invite grade", &number, grade)
+    }
 }

@@ -5,6 +5,10 @@ use std::fmt;
 #[derive(Clone, Copy)]
 pub struct TextWords<'a>(pub &'a [u8]);
 
+// A byte of a text.
+#[derive(Clone, Copy)]
+struct ByteWords(u8);
+
 // The text without the spaces at its end.
 fn trimmed(text: &[u8]) -> &[u8] {
     let mut rest = text;
@@ -14,13 +18,16 @@ fn trimmed(text: &[u8]) -> &[u8] {
     rest
 }
 
-fn show_byte<W: fmt::Write>(byte: u8, f: &mut fmt::Formatter<W>) -> fmt::Result {
-    // a backslash is not shown as it is, so that \xNN is never a text of four characters
-    if byte >= b' ' && byte <= b'~' && byte != b'\\' {
-        let shown = byte as char;
-        write!(f, "{shown}")
-    } else {
-        write!(f, "\\x{byte:02x}")
+impl fmt::Display for ByteWords {
+    fn fmt<W: fmt::Write>(&self, f: &mut fmt::Formatter<W>) -> fmt::Result {
+        let byte = self.0;
+        // a backslash is not shown as it is, so that \xNN is never a text of four characters
+        if matches!(byte, b' '..=b'~') && byte != b'\\' {
+            let shown = byte as char;
+            write!(f, "{shown}")
+        } else {
+            write!(f, "\\x{byte:02x}")
+        }
     }
 }
 
@@ -31,7 +38,8 @@ impl fmt::Display for TextWords<'_> {
             return write!(f, "(blank)");
         }
         for byte in text {
-            show_byte(*byte, f)?;
+            let byte = ByteWords(*byte);
+            write!(f, "{byte}")?;
         }
         Ok(())
     }
