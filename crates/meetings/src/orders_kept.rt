@@ -84,7 +84,7 @@ pub(crate) fn keep(
     let Command::Enter(order) = *command else {
         return Outcome::NoOrder;
     };
-    let Some(category) = Category::of(line.category) else {
+    let Ok(category) = Category::try_from(line.category) else {
         return Outcome::NoCategory;
     };
     let number = (orders.len() as u64).saturating_add(1);

@@ -52,10 +52,10 @@ impl<P> Grid<P> {
         ensures below { self.new.below ≡ self.old.below }
         ensures answer { result ≡ setting_answer (category_of category) (category_of other) }
     {
-        let Some(from) = Category::of(category) else {
+        let Ok(from) = Category::try_from(category) else {
             return Err(PolicyRefusal::NoCategory);
         };
-        let Some(to) = Category::of(other) else {
+        let Ok(to) = Category::try_from(other) else {
             return Err(PolicyRefusal::NoCategory);
         };
         self.put(from, to, on);

@@ -27,14 +27,14 @@ fn each_setting_both_ways(rt: HostRuntime) {
     assert!(rt; parts(&grid, None), "at first all meet");
     for a in CATEGORIES {
         for b in CATEGORIES {
-            assert!(rt; grid.set(a.number(), b.number(), false) == Ok(()));
+            assert!(rt; grid.set(u8::from(a), u8::from(b), false) == Ok(()));
             assert!(rt; parts(&grid, Some((a, b))));
             assert!(rt;
-                grid.set(a.number(), b.number(), false) == Ok(()),
+                grid.set(u8::from(a), u8::from(b), false) == Ok(()),
                 "dropped already"
             );
             assert!(rt; parts(&grid, Some((a, b))));
-            assert!(rt; grid.set(a.number(), b.number(), true) == Ok(()));
+            assert!(rt; grid.set(u8::from(a), u8::from(b), true) == Ok(()));
             assert!(rt; parts(&grid, None));
         }
     }

@@ -1,5 +1,6 @@
 -- A list by its parts.
-use Rattle.std.proofs.Common.{◌≡◌, ℕ, zero, suc, ◌+◌, ◌-◌, ◌*◌, ◌/◌, ◌%◌, ◌^◌, ◌<◌, ◌≤◌, Bool, true, false, cond, eqb, ltb, List, [], ◌∷◌, ◌++◌, length, get_or, take, drop, replicate, ℤ, Some, Ok, Err, Option, sym, refl, ap, ◌∙◌, add-zero, arith, w8, w32, Fits, to_z, of_z, eqb-true}
+use Rattle.std.proofs.Common.{◌≡◌, ℕ, zero, suc, ◌+◌, ◌-◌, ◌*◌, ◌/◌, ◌%◌, ◌^◌, ◌<◌, ◌≤◌, Bool, true, false, cond, eqb, ltb, List, [], ◌∷◌, ◌++◌, length, get_or, take, drop, replicate, ℤ, Some, Ok, Err, Option, Result, is_some, is_ok, sym, refl, ap, ◌∙◌, add-zero, arith, w8, w32, Fits, to_z, of_z, eqb-true}
+use Rattle.std.specs.Result.{result_ok}
 use borrow.Rule.Slice.PartMut.{put_mid}
 use Rattle.std.proofs.lemmas.Int.{of_z-to_z}
 use Rattle.orders.specs.Codes.{coded}
@@ -143,6 +144,11 @@ pub code_at : {V : Type 0} (code : V → ℕ) (vs : List V) (i : ℕ) (xs : List
 code_at code vs i xs h e =
     let l : 1 ≤ length (drop i xs) = simp length-drop (omega arith) in
     take1 (drop i xs) l ∙ ap (λ b. b ∷ []) (get_or-drop i xs 0 0 ∙ ap (λ k. get_or xs k 0) (add-zero i) ∙ coded_code code vs (get_or xs i 0) e)
+
+-- what was converted has a value where one was found
+pub found : {V E : Type 0} (r : Result V E) {o : Option V} → result_ok r ≡ o → is_ok r ≡ is_some o
+found (Ok v) e = ap is_some e
+found (Err d) e = ap is_some e
 
 -- one more test of a list of tests
 pub test : (n : ℕ) {a b : Bool} {ts us : List (ℕ × Bool)} → a ≡ b → ts ≡ us → (n, a) ∷ ts ≡ (n, b) ∷ us

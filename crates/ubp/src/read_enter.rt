@@ -16,7 +16,7 @@ fn may_stand(constraint: u8, peg: u8) -> bool
     ensures { result ≡ beside_peg constraint peg }
 {
     if peg == b'M' {
-        Constraint::of(constraint).is_some()
+        Constraint::try_from(constraint).is_ok()
     } else {
         constraint == b' '
     }
@@ -31,23 +31,23 @@ fn check_enter(fields: &[u8]) -> Result<(), ReadRefusal>
         return Err(ReadRefusal::WrongLength);
     }
     first_bad(&[
-        (15, Side::of(fields[14]).is_some()),
-        (30, TimeInForce::of(number(&fields[29..])).is_some()),
+        (15, Side::try_from(fields[14]).is_ok()),
+        (30, TimeInForce::try_from(number(&fields[29..])).is_ok()),
         (38, filled(&fields[37..38], b' ')),
-        (39, Capacity::of(fields[38]).is_some()),
+        (39, Capacity::try_from(fields[38]).is_ok()),
         (40, filled(&fields[39..40], b' ')),
         (45, filled(&fields[44..45], b' ')),
         (46, may_stand(fields[45], fields[54])),
         (47, filled(&fields[46..47], b' ')),
-        (48, LeavesMode::of(fields[47]).is_some()),
+        (48, LeavesMode::try_from(fields[47]).is_ok()),
         (49, filled(&fields[48..53], b' ')),
-        (54, CrossStyle::of(fields[53]).is_some()),
-        (55, Peg::of(fields[54]).is_some()),
+        (54, CrossStyle::try_from(fields[53]).is_ok()),
+        (55, Peg::try_from(fields[54]).is_ok()),
         (56, filled(&fields[55..56], b' ')),
         (57, filled(&fields[56..60], 0)),
-        (61, InviteGrade::of(fields[60]).is_some()),
+        (61, InviteGrade::try_from(fields[60]).is_ok()),
         (62, filled(&fields[61..65], 0)),
-        (66, Lots::of(fields[65]).is_some()),
+        (66, Lots::try_from(fields[65]).is_ok()),
     ])
 }
 
@@ -62,18 +62,18 @@ fn take_enter(fields: &[u8]) -> EnterOrder
         shares: number(&fields[15..]),
         price: signed(&fields[25..]),
         terms: Terms {
-            side: Side::of(fields[14]).unwrap(),
+            side: Side::try_from(fields[14]).unwrap(),
             stock: bytes(&fields[19..]),
-            time: TimeInForce::of(number(&fields[29..])).unwrap(),
+            time: TimeInForce::try_from(number(&fields[29..])).unwrap(),
             firm: bytes(&fields[33..]),
-            capacity: Capacity::of(fields[38]).unwrap(),
+            capacity: Capacity::try_from(fields[38]).unwrap(),
             minimum: number(&fields[40..]),
-            constraint: Constraint::of(fields[45]).unwrap(),
-            leaves: LeavesMode::of(fields[47]).unwrap(),
-            style: CrossStyle::of(fields[53]).unwrap(),
-            peg: Peg::of(fields[54]).unwrap(),
-            grade: InviteGrade::of(fields[60]).unwrap(),
-            lots: Lots::of(fields[65]).unwrap(),
+            constraint: Constraint::try_from(fields[45]).unwrap(),
+            leaves: LeavesMode::try_from(fields[47]).unwrap(),
+            style: CrossStyle::try_from(fields[53]).unwrap(),
+            peg: Peg::try_from(fields[54]).unwrap(),
+            grade: InviteGrade::try_from(fields[60]).unwrap(),
+            lots: Lots::try_from(fields[65]).unwrap(),
         },
     }
 }

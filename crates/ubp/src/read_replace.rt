@@ -18,16 +18,16 @@ fn check_replace(fields: &[u8]) -> Result<(), ReadRefusal>
         return Err(ReadRefusal::WrongLength);
     }
     first_bad(&[
-        (37, TimeInForce::of(number(&fields[36..])).is_some()),
+        (37, TimeInForce::try_from(number(&fields[36..])).is_ok()),
         (41, filled(&fields[40..41], b' ')),
         (42, filled(&fields[41..42], b' ')),
-        (47, CrossStyle::of(fields[46]).is_some()),
-        (48, Peg::of(fields[47]).is_some()),
+        (47, CrossStyle::try_from(fields[46]).is_ok()),
+        (48, Peg::try_from(fields[47]).is_ok()),
         (49, filled(&fields[48..49], b' ')),
         (50, filled(&fields[49..53], 0)),
         (54, filled(&fields[53..54], b' ')),
         (55, filled(&fields[54..58], 0)),
-        (59, Lots::of(fields[58]).is_some()),
+        (59, Lots::try_from(fields[58]).is_ok()),
     ])
 }
 
@@ -42,11 +42,11 @@ fn take_replace(fields: &[u8]) -> ReplaceOrder
         token: bytes(&fields[14..]),
         shares: number(&fields[28..]),
         price: signed(&fields[32..]),
-        time: TimeInForce::of(number(&fields[36..])).unwrap(),
+        time: TimeInForce::try_from(number(&fields[36..])).unwrap(),
         minimum: number(&fields[42..]),
-        style: CrossStyle::of(fields[46]).unwrap(),
-        peg: Peg::of(fields[47]).unwrap(),
-        lots: Lots::of(fields[58]).unwrap(),
+        style: CrossStyle::try_from(fields[46]).unwrap(),
+        peg: Peg::try_from(fields[47]).unwrap(),
+        lots: Lots::try_from(fields[58]).unwrap(),
     }
 }
 

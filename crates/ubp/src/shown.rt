@@ -37,16 +37,16 @@ impl From<&Option<Terms>> for ShownTerms {
                 lots: b' ',
             },
             Some(t) => ShownTerms {
-                side: t.side.byte(),
+                side: u8::from(t.side),
                 stock: t.stock,
-                time: t.time.number(),
+                time: u32::from(t.time),
                 firm: t.firm,
-                capacity: t.capacity.byte(),
+                capacity: u8::from(t.capacity),
                 minimum: t.minimum,
-                style: t.style.byte(),
-                peg: t.peg.byte(),
-                grade: t.grade.number(),
-                lots: t.lots.byte(),
+                style: u8::from(t.style),
+                peg: u8::from(t.peg),
+                grade: u8::from(t.grade),
+                lots: u8::from(t.lots),
             },
         }
     }

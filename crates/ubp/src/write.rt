@@ -19,11 +19,11 @@ fn put_enter_trade(order: &EnterOrder, out: &mut [u8])
     let terms = &order.terms;
     put(out, 0, b"o");
     put(out, 1, &order.token);
-    put(out, 15, &[terms.side.byte()]);
+    put(out, 15, &[u8::from(terms.side)]);
     put(out, 16, &order.shares.to_be_bytes());
     put(out, 20, &terms.stock);
     put(out, 26, &order.price.to_be_bytes());
-    put(out, 30, &terms.time.number().to_be_bytes());
+    put(out, 30, &u32::from(terms.time).to_be_bytes());
     put(out, 34, &terms.firm);
 }
 
@@ -35,16 +35,16 @@ fn put_enter_terms(order: &EnterOrder, out: &mut [u8])
     let terms = &order.terms;
     put_enter_trade(order, out);
     put(out, 38, b" ");
-    put(out, 39, &[terms.capacity.byte()]);
+    put(out, 39, &[u8::from(terms.capacity)]);
     put(out, 40, b" ");
     put(out, 41, &terms.minimum.to_be_bytes());
     put(out, 45, b" ");
-    put(out, 46, &[terms.constraint.byte()]);
+    put(out, 46, &[u8::from(terms.constraint)]);
     put(out, 47, b" ");
-    put(out, 48, &[terms.leaves.byte()]);
+    put(out, 48, &[u8::from(terms.leaves)]);
     put(out, 49, b"     ");
-    put(out, 54, &[terms.style.byte()]);
-    put(out, 55, &[terms.peg.byte()]);
+    put(out, 54, &[u8::from(terms.style)]);
+    put(out, 55, &[u8::from(terms.peg)]);
 }
 
 fn write_enter(order: &EnterOrder, out: &mut [u8]) -> Result<usize, WriteRefusal>
@@ -56,9 +56,9 @@ fn write_enter(order: &EnterOrder, out: &mut [u8]) -> Result<usize, WriteRefusal
     put_enter_terms(order, out);
     put(out, 56, b" ");
     put(out, 57, &[0; 4]);
-    put(out, 61, &[order.terms.grade.number()]);
+    put(out, 61, &[u8::from(order.terms.grade)]);
     put(out, 62, &[0; 4]);
-    put(out, 66, &[order.terms.lots.byte()]);
+    put(out, 66, &[u8::from(order.terms.lots)]);
     Ok(67)
 }
 
@@ -72,7 +72,7 @@ fn put_replace_trade(order: &ReplaceOrder, out: &mut [u8])
     put(out, 15, &order.token);
     put(out, 29, &order.shares.to_be_bytes());
     put(out, 33, &order.price.to_be_bytes());
-    put(out, 37, &order.time.number().to_be_bytes());
+    put(out, 37, &u32::from(order.time).to_be_bytes());
 }
 
 fn write_replace(order: &ReplaceOrder, out: &mut [u8]) -> Result<usize, WriteRefusal>
@@ -85,13 +85,13 @@ fn write_replace(order: &ReplaceOrder, out: &mut [u8]) -> Result<usize, WriteRef
     put(out, 41, b" ");
     put(out, 42, b" ");
     put(out, 43, &order.minimum.to_be_bytes());
-    put(out, 47, &[order.style.byte()]);
-    put(out, 48, &[order.peg.byte()]);
+    put(out, 47, &[u8::from(order.style)]);
+    put(out, 48, &[u8::from(order.peg)]);
     put(out, 49, b" ");
     put(out, 50, &[0; 4]);
     put(out, 54, b" ");
     put(out, 55, &[0; 4]);
-    put(out, 59, &[order.lots.byte()]);
+    put(out, 59, &[u8::from(order.lots)]);
     Ok(60)
 }
 

@@ -15,7 +15,7 @@ fn put_head(slip: &Slip, out: &mut [u8])
     requires { 23 ≤ length out.old }
     ensures { Begun 23 (message (kind_byte slip.now.kind) head_fields slip.now) out.old out.new }
 {
-    put(out, 0, &[slip.kind.byte()]);
+    put(out, 0, &[u8::from(slip.kind)]);
     put(out, 1, &slip.clock.to_be_bytes());
     put(out, 9, &slip.token);
 }
@@ -39,7 +39,7 @@ fn put_order(slip: &Slip, terms: &ShownTerms, out: &mut [u8])
     put(out, 56, b" ");
     put(out, 57, &terms.minimum.to_be_bytes());
     put(out, 61, b" ");
-    put(out, 62, &[slip.letter.byte()]);
+    put(out, 62, &[u8::from(slip.letter)]);
 }
 
 fn write_accepted(slip: &Slip, out: &mut [u8]) -> Result<usize, WriteRefusal>
@@ -90,7 +90,7 @@ fn write_executed(slip: &Slip, out: &mut [u8]) -> Result<usize, WriteRefusal>
     put_head(slip, out);
     put(out, 23, &slip.shares.to_be_bytes());
     put(out, 27, &slip.price.to_be_bytes());
-    put(out, 31, &[slip.letter.byte()]);
+    put(out, 31, &[u8::from(slip.letter)]);
     put(out, 32, &slip.match_number.to_be_bytes());
     Ok(40)
 }
@@ -103,7 +103,7 @@ fn write_cancelled(slip: &Slip, out: &mut [u8]) -> Result<usize, WriteRefusal>
     }
     put_head(slip, out);
     put(out, 23, &slip.shares.to_be_bytes());
-    put(out, 27, &[slip.letter.byte()]);
+    put(out, 27, &[u8::from(slip.letter)]);
     Ok(28)
 }
 
@@ -124,7 +124,7 @@ fn write_rejected(slip: &Slip, out: &mut [u8]) -> Result<usize, WriteRefusal>
         return Err(WriteRefusal::ShortBuffer);
     }
     put_head(slip, out);
-    put(out, 23, &[slip.letter.byte()]);
+    put(out, 23, &[u8::from(slip.letter)]);
     Ok(24)
 }
 

@@ -13,9 +13,9 @@ pub struct PartyRow(pub Party);
 impl fmt::Display for PartyRow {
     fn fmt<W: fmt::Write>(&self, f: &mut fmt::Formatter<W>) -> fmt::Result {
         let client = self.0.client;
-        let category = self.0.category.number();
+        let category = u8::from(self.0.category);
         let capacity = capacity_words(self.0.capacity);
-        let style = self.0.style.byte() as char;
+        let style = char::from(u8::from(self.0.style));
         write!(f, "{client:>10}  {category:>8}  {capacity:<9}  {style:<5}")
     }
 }

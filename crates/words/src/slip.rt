@@ -12,7 +12,7 @@ use std::fmt;
 pub struct SlipWords<'a>(pub &'a Slip);
 
 fn show_head<W: fmt::Write>(slip: &Slip, f: &mut fmt::Formatter<W>) -> fmt::Result {
-    let letter = slip.kind.byte() as char;
+    let letter = char::from(u8::from(slip.kind));
     let kind = kind_words(slip.kind);
     writeln!(f, "  Answer {letter}: {kind}")?;
     show_field(f, "clock", &slip.clock)?;
@@ -21,7 +21,7 @@ fn show_head<W: fmt::Write>(slip: &Slip, f: &mut fmt::Formatter<W>) -> fmt::Resu
 
 // Why, or in which state.
 fn show_letter<W: fmt::Write>(slip: &Slip, f: &mut fmt::Formatter<W>) -> fmt::Result {
-    let letter = slip.letter.byte() as char;
+    let letter = char::from(u8::from(slip.letter));
     show_code(f, "letter", &letter, letter_words(slip.letter))
 }
 

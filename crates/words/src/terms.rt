@@ -57,7 +57,7 @@ pub(crate) fn show_style<W: fmt::Write>(
     style: CrossStyle,
     f: &mut fmt::Formatter<W>,
 ) -> fmt::Result {
-    let letter = style.byte() as char;
+    let letter = char::from(u8::from(style));
     show_code(f, "cross style", &letter, style_words(style))
 }
 
@@ -71,6 +71,6 @@ pub(crate) fn show_sender<W: fmt::Write>(terms: &Terms, f: &mut fmt::Formatter<W
 
 // Which conditional indications the order invites.
 pub(crate) fn show_grade<W: fmt::Write>(terms: &Terms, f: &mut fmt::Formatter<W>) -> fmt::Result {
-    let number = terms.grade.number();
+    let number = u8::from(terms.grade);
     show_code(f, "invite grade", &number, grade_words(terms.grade))
 }

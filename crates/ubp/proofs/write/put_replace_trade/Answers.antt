@@ -20,5 +20,5 @@ returns c =
     let w3 = more 14 m.token w2 h2 c.put-3.ensures in
     let w4 = more_by 4 (bytes4 m.shares) w3 c.to_be_bytes.ensures refl c.put-4.ensures in
     let w5 = more_by 4 (bytes4 (of_z w32 m.price)) w4 (c.to_be_bytes-2.ensures ∙ ap (λ z. bytes4 (of_z w32 z)) (to_z-of_z w32 m.price p)) refl c.put-5.ensures in
-    let w6 = more_by 4 (bytes4 (time_number m.time)) w5 (c.to_be_bytes-3.ensures ∙ ap bytes4 c.number.ensures) refl c.put-6.ensures in
+    let w6 = more_by 4 (bytes4 (time_number m.time)) w5 (c.to_be_bytes-3.ensures ∙ ap bytes4 c.from.ensures) refl c.put-6.ensures in
     begun_as w6 (after replace_type [] (take 5 replace_fields) m refl)

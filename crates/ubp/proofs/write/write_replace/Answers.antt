@@ -18,11 +18,11 @@ returns c =
     let w1 = more 1 (replicate 1 32) w0 refl c.put.ensures in
     let w2 = more 1 (replicate 1 32) w1 refl c.put-2.ensures in
     let w3 = more_by 4 (bytes4 m.minimum) w2 c.to_be_bytes.ensures refl c.put-3.ensures in
-    let w4 = more_by 1 (style_byte m.style ∷ []) w3 (ap (λ b. b ∷ []) c.byte.ensures) refl c.put-4.ensures in
-    let w5 = more_by 1 (peg_byte m.peg ∷ []) w4 (ap (λ b. b ∷ []) c.byte-2.ensures) refl c.put-5.ensures in
+    let w4 = more_by 1 (style_byte m.style ∷ []) w3 (ap (λ b. b ∷ []) c.from.ensures) refl c.put-4.ensures in
+    let w5 = more_by 1 (peg_byte m.peg ∷ []) w4 (ap (λ b. b ∷ []) c.from-2.ensures) refl c.put-5.ensures in
     let w6 = more 1 (replicate 1 32) w5 refl c.put-6.ensures in
     let w7 = more 4 (replicate 4 0) w6 refl c.put-7.ensures in
     let w8 = more 1 (replicate 1 32) w7 refl c.put-8.ensures in
     let w9 = more 4 (replicate 4 0) w8 refl c.put-9.ensures in
-    let w10 = more_by 1 (lots_byte m.lots ∷ []) w9 (ap (λ b. b ∷ []) c.byte-3.ensures) refl c.put-10.ensures in
+    let w10 = more_by 1 (lots_byte m.lots ∷ []) w9 (ap (λ b. b ∷ []) c.from-3.ensures) refl c.put-10.ensures in
     wrote c.if-out-lt60.false w10 (after replace_type (take 5 replace_fields) (drop 5 replace_fields) m refl)

@@ -28,5 +28,5 @@ returns c =
     let w10 = more 1 (replicate 1 32) w9 refl c.put-10.ensures in
     let w11 = more_by 4 (bytes4 (shown s.terms).minimum) w10 (c.to_be_bytes-5.ensures ∙ ap (λ x. bytes4 x.minimum) t) refl c.put-11.ensures in
     let w12 = more 1 (replicate 1 32) w11 refl c.put-12.ensures in
-    let w13 = more_by 1 (letter_byte s.letter ∷ []) w12 (ap (λ b. b ∷ []) c.byte.ensures) refl c.put-13.ensures in
+    let w13 = more_by 1 (letter_byte s.letter ∷ []) w12 (ap (λ b. b ∷ []) c.from.ensures) refl c.put-13.ensures in
     begun_as w13 (after (kind_byte s.kind) head_fields order_fields s refl)

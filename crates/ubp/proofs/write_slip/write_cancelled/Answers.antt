@@ -16,5 +16,5 @@ returns c =
     let s = c.args.slip.now in
     let w0 = c.put_head.ensures in
     let w1 = more_by 4 (bytes4 s.shares) w0 c.to_be_bytes.ensures refl c.put.ensures in
-    let w2 = more_by 1 (letter_byte s.letter ∷ []) w1 (ap (λ b. b ∷ []) c.byte.ensures) refl c.put-2.ensures in
+    let w2 = more_by 1 (letter_byte s.letter ∷ []) w1 (ap (λ b. b ∷ []) c.from.ensures) refl c.put-2.ensures in
     wrote c.if-out-lt28.false w2 (after (kind_byte s.kind) head_fields (drop 2 cancelled_fields) s refl)

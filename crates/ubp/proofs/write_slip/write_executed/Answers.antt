@@ -19,6 +19,6 @@ returns c =
     let w0 = c.put_head.ensures in
     let w1 = more_by 4 (bytes4 s.shares) w0 c.to_be_bytes.ensures refl c.put.ensures in
     let w2 = more_by 4 (bytes4 (of_z w32 s.price)) w1 (c.to_be_bytes-2.ensures ∙ ap (λ z. bytes4 (of_z w32 z)) (to_z-of_z w32 s.price p)) refl c.put-2.ensures in
-    let w3 = more_by 1 (letter_byte s.letter ∷ []) w2 (ap (λ b. b ∷ []) c.byte.ensures) refl c.put-3.ensures in
+    let w3 = more_by 1 (letter_byte s.letter ∷ []) w2 (ap (λ b. b ∷ []) c.from.ensures) refl c.put-3.ensures in
     let w4 = more_by 8 (bytes8 s.match_number) w3 c.to_be_bytes-3.ensures refl c.put-4.ensures in
     wrote c.if-out-lt40.false w4 (after (kind_byte s.kind) head_fields (drop 2 executed_fields) s refl)

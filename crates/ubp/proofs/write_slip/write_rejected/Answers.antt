@@ -14,5 +14,5 @@ unfolding head_fields rejected_fields
 returns c =
     let s = c.args.slip.now in
     let w0 = c.put_head.ensures in
-    let w1 = more_by 1 (letter_byte s.letter ∷ []) w0 (ap (λ b. b ∷ []) c.byte.ensures) refl c.put.ensures in
+    let w1 = more_by 1 (letter_byte s.letter ∷ []) w0 (ap (λ b. b ∷ []) c.from.ensures) refl c.put.ensures in
     wrote c.if-out-lt24.false w1 (after (kind_byte s.kind) head_fields (drop 2 rejected_fields) s refl)
