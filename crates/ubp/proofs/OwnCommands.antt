@@ -1,5 +1,5 @@
 -- Each command's frame is read, and tells the command.
-use Rattle.std.proofs.Common.{◌≡◌, ℕ, ◌/◌, ◌^◌, ◌<◌, List, [], ◌∷◌, length, get_or, drop, ℤ, is_some, Some, Ok, Err, Option, sym, refl, ap, ◌∙◌, arith, w32, to_z, of_z, MatchResult}
+use Rattle.std.proofs.Common.{◌≡◌, ℕ, ◌/◌, ◌^◌, ◌<◌, List, [], ◌∷◌, length, get_or, drop, ℤ, is_some, Some, Ok, Err, Option, sym, refl, ap, ◌∙◌, arith, w32, to_z, of_z}
 use denote.Struct.Record.{values_one}
 use Rattle.orders.specs.Codes.{side_byte, side_of, time_number, time_of, capacity_byte, capacity_of, constraint_byte, constraint_of, leaves_byte, leaves_of, style_byte, style_of, peg_byte, peg_of, grade_number, grade_of, lots_byte, lots_of}
 use Rattle.orders.proofs.FoundAgain.{side_is, capacity_is, constraint_is, leaves_is, style_is, peg_is, grade_is, lots_is}
@@ -13,11 +13,12 @@ use Rattle.orders.specs.declared.command.Command.TheVariants.{Enter, Replace, Ca
 use Rattle.orders.specs.contracts.enter.EnterOrder as enter
 use Rattle.orders.specs.contracts.command.ReplaceOrder as replace
 use Rattle.orders.specs.contracts.command.CancelOrder as cancel
+use Rattle.ubp.specs.declared.refusal.ReadRefusal.{ReadRefusal}
 use Rattle.ubp.specs.Bytes.{big4, bytes4}
 use Rattle.ubp.specs.Commands.{enter_type, enter_fields, replace_type, replace_fields, cancel_type, cancel_fields}
 use Rattle.ubp.specs.Formats.{bytes_of}
-use Rattle.ubp.specs.Frames.{Verdict, verdict, encoded, command_size}
-use Rattle.ubp.specs.Theorems.{Taken, Told, ReadBack}
+use Rattle.ubp.specs.Frames.{verdict, encoded, command_size}
+use Rattle.ubp.specs.Theorems.{Taken, Told}
 use Rattle.ubp.proofs.Own.{Good, good_read, good_size, Each, each}
 use Rattle.ubp.proofs.Pegs.{test_is}
 
@@ -289,10 +290,9 @@ told_own (Cancel c) (Enter d) e = other (omega arith) e
 told_own (Cancel c) (Replace d) e = other (omega arith) e
 told_own (Cancel c) (Cancel d) e = ap Cancel (cancel_same d c (rest e))
 
--- what a reader with these answers fills in, where it reads a command's own frame
-pub read_back : (frame : List ℕ) (r : Verdict) (old d : Command) → r ≡ verdict frame → MatchResult r (λ _. frame ≡ encoded d) (λ _. d ≡ old) → ReadBack frame r d
-read_back frame (Ok x) old d a f c e = (refl, told_own c d (sym f ∙ e))
-read_back frame (Err x) old d a f c e = let z : ◌≡◌ {A = ℕ} 0 1 = cc (a ∙ ap verdict e ∙ taken_own c) in absurd (omega arith)
+-- a frame that is refused is no command's
+pub no_frame : {X : Type 0} (frame : List ℕ) {x : ReadRefusal} → Err x ≡ verdict frame → (c : Command) → frame ≡ encoded c → X
+no_frame frame e c f = let z : ◌≡◌ {A = ℕ} 0 1 = cc (e ∙ ap verdict f ∙ taken_own c) in absurd (omega arith)
 
 -- a frame is as long as its command has bytes
 pub frame_size : (c : Command) → length (encoded c) ≡ command_size c

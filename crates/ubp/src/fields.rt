@@ -11,36 +11,28 @@ pub(crate) fn bytes<const N: usize>(part: &[u8]) -> [u8; N]
     requires { N ≤ length part.now }
     ensures { result ≡ take N part.now }
 {
-    match <[u8; N]>::try_from(&part[0..N]) {
-        Ok(a) => a,
-        Err(_) => unreachable(),
-    }
+    *part.first_chunk().unwrap()
 }
 
 pub(crate) fn number(part: &[u8]) -> u32
     requires { 4 ≤ length part.now }
     ensures { result ≡ big4 part.now }
 {
-    u32::from_be_bytes([part[0], part[1], part[2], part[3]])
+    u32::from_be_bytes(bytes(part))
 }
 
 pub(crate) fn signed(part: &[u8]) -> i32
     requires { 4 ≤ length part.now }
     ensures { result ≡ to_z w32 (big4 part.now) }
 {
-    i32::from_be_bytes([part[0], part[1], part[2], part[3]])
+    i32::from_be_bytes(bytes(part))
 }
 
 // Whether all bytes of the part are b.
 pub(crate) fn filled(part: &[u8], b: u8) -> bool
     ensures { result ≡ all_are b part.now }
 {
-    for x in part {
-        if *x != b {
-            return false;
-        }
-    }
-    true
+    part.iter().all(|x| *x == b)
 }
 
 // The first test that failed, by its field's offset.

@@ -1,5 +1,6 @@
 // What a reader or a writer refuses.
 ghost use Rattle.std.specs.Prelude.{◌≡◌};
+ghost use Rattle.ubp.specs.declared.refusal.Refusal.TheVariants.{Reading, Writing};
 ghost use Rattle.ubp.specs.Numbers.{read_number, write_number, refusal_number};
 
 #[derive(Clone, Copy)]
@@ -23,6 +24,22 @@ pub enum WriteRefusal {
 pub enum Refusal {
     Reading(ReadRefusal),
     Writing(WriteRefusal),
+}
+
+impl From<ReadRefusal> for Refusal {
+    ghost from_gives = { λ refused result. result ≡ Reading refused };
+
+    fn from(refused: ReadRefusal) -> Refusal {
+        Refusal::Reading(refused)
+    }
+}
+
+impl From<WriteRefusal> for Refusal {
+    ghost from_gives = { λ refused result. result ≡ Writing refused };
+
+    fn from(refused: WriteRefusal) -> Refusal {
+        Refusal::Writing(refused)
+    }
 }
 
 impl ReadRefusal {

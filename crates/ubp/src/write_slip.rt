@@ -48,7 +48,7 @@ fn write_accepted(slip: &Slip, out: &mut [u8]) -> Result<usize, WriteRefusal>
     if out.len() < 84 {
         return Err(WriteRefusal::ShortBuffer);
     }
-    let terms = ShownTerms::of(&slip.terms);
+    let terms = ShownTerms::from(&slip.terms);
     put_order(slip, &terms, out);
     put(out, 63, b"        ");
     put(out, 71, &[terms.style]);
@@ -67,7 +67,7 @@ fn write_replaced(slip: &Slip, out: &mut [u8]) -> Result<usize, WriteRefusal>
     if out.len() < 98 {
         return Err(WriteRefusal::ShortBuffer);
     }
-    let terms = ShownTerms::of(&slip.terms);
+    let terms = ShownTerms::from(&slip.terms);
     put_order(slip, &terms, out);
     put(out, 63, &slip.old.token);
     put(out, 77, b"        ");

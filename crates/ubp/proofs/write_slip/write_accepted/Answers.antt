@@ -13,7 +13,7 @@ pub returns : goal.returns
 unfolding head_fields order_fields accepted_fields
 returns c =
     let s = c.args.slip.now in
-    let t = c.of-terms.ensures in
+    let t = c.from-terms.ensures in
     let w0 = c.put_order.ensures in
     let w1 = more 8 (replicate 8 32) w0 refl c.put.ensures in
     let w2 = more_by 1 ((shown s.terms).style ∷ []) w1 (ap (λ x. x.style ∷ []) t) refl c.put-2.ensures in

@@ -13,7 +13,7 @@ pub returns : goal.returns
 unfolding head_fields order_fields replaced_fields
 returns c =
     let s = c.args.slip.now in
-    let t = c.of-terms.ensures in
+    let t = c.from-terms.ensures in
     let h1 : length s.old.token ≡ 14 = search rules in
     let w0 = c.put_order.ensures in
     let w1 = more 14 s.old.token w0 h1 c.put.ensures in
