@@ -1,5 +1,5 @@
 // The command that enters an order.
-ghost use Rattle.std.specs.Prelude.{◌≡◌, ◌^◌, ◌<◌, true, length, FitsSigned};
+ghost use Rattle.std.specs.Prelude.{◌≡◌, ◌^◌, ◌<◌, length, IsTrue, FitsSigned};
 ghost use Rattle.std.specs.Int.{w32};
 ghost use Rattle.orders.specs.Pegs.{may_state};
 
@@ -13,7 +13,7 @@ pub struct EnterOrder {
     pub shares: u32,
     pub price: i32,
     pub terms: Terms,
-    ghost pegged: { may_state terms.peg terms.constraint ≡ true },
+    ghost pegged: { IsTrue (may_state terms.peg terms.constraint) },
     ghost sized: { (length token ≡ 14) × (length terms.stock ≡ 6) × (length terms.firm ≡ 4) },
     ghost fits: { (shares < 2 ^ 32) × (terms.minimum < 2 ^ 32) },
     ghost priced: { FitsSigned w32 price },
