@@ -9,7 +9,7 @@ use crate::Policy;
 use crate::refusal::PolicyRefusal;
 use orders::party::{Category, Party};
 
-// Over a policy, which stays open to settings of its own; for each category a row, which says for each whether the first meets it.
+// Over a policy, which stays open to settings of its own. Each category has a row, which says of each category whether the first meets it.
 #[derive(Drop)]
 pub struct Grid<P> {
     pub below: P,

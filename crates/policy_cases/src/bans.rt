@@ -17,10 +17,11 @@ fn clients_meet(bans: &Bans, one: u32, other: u32) -> Option<bool> {
 #[test]
 fn just_the_banned_pair_is_apart(rt: HostRuntime) {
     let mut bans = Bans::new();
-    assert_eq!(rt; clients_meet(&bans, 1, 2), Some(true));
-    assert_eq!(rt; clients_meet(&bans, 0, 0), Some(true));
-    assert!(rt; bans.ban(1, 2) == Ok(()));
-    assert!(rt; bans.ban(5, 5) == Ok(()));
+    for (one, other) in [(1, 2), (0, 0)] {
+        assert_eq!(rt; clients_meet(&bans, one, other), Some(true));
+    }
+    assert_eq!(rt; bans.ban(1, 2), Ok(()));
+    assert_eq!(rt; bans.ban(5, 5), Ok(()));
     for (one, other) in [(1, 2), (5, 5)] {
         assert_eq!(rt; clients_meet(&bans, one, other), Some(false));
     }
@@ -41,25 +42,25 @@ fn full() -> Bans {
 #[test]
 fn the_65th_new_pair_is_refused(rt: HostRuntime) {
     let mut bans = full();
-    assert!(rt; bans.ban(7, 8) == Err(PolicyRefusal::BansFull));
-    assert!(rt; PolicyRefusal::BansFull.number() == 41);
+    assert_eq!(rt; bans.ban(7, 8), Err(PolicyRefusal::BansFull));
+    assert_eq!(rt; PolicyRefusal::BansFull.number(), 41);
     assert_eq!(rt; clients_meet(&bans, 7, 8), Some(true));
     for client in 0..64 {
         assert_eq!(rt; clients_meet(&bans, client, client + 1000), Some(false));
-        assert!(rt; bans.ban(client + 1000, client) == Ok(()), "held already");
+        assert_eq!(rt; bans.ban(client + 1000, client), Ok(()), "held already");
     }
-    assert!(rt; bans.ban(8, 7) == Err(PolicyRefusal::BansFull));
+    assert_eq!(rt; bans.ban(8, 7), Err(PolicyRefusal::BansFull));
 }
 
 #[test]
 fn a_held_pair_takes_no_second_place(rt: HostRuntime) {
     let mut bans = Bans::new();
     for _ in 0..100 {
-        assert!(rt; bans.ban(1, 2) == Ok(()));
-        assert!(rt; bans.ban(2, 1) == Ok(()));
+        assert_eq!(rt; bans.ban(1, 2), Ok(()));
+        assert_eq!(rt; bans.ban(2, 1), Ok(()));
     }
     for client in 0..63 {
-        assert!(rt; bans.ban(client, client + 1000) == Ok(()));
+        assert_eq!(rt; bans.ban(client, client + 1000), Ok(()));
     }
-    assert!(rt; bans.ban(63, 1063) == Err(PolicyRefusal::BansFull));
+    assert_eq!(rt; bans.ban(63, 1063), Err(PolicyRefusal::BansFull));
 }

@@ -7,8 +7,8 @@ use policy::grid::Grid;
 #[test]
 fn a_grid_over_bans(rt: HostRuntime) {
     let mut grid = Grid::over(Bans::new());
-    assert!(rt; grid.below.ban(1, 2) == Ok(()));
-    assert!(rt; grid.set(3, 4, false) == Ok(()));
+    assert_eq!(rt; grid.below.ban(1, 2), Ok(()));
+    assert_eq!(rt; grid.set(3, 4, false), Ok(()));
     let banned = open_party(1, Category::One);
     assert_eq!(rt;
         both_ways(&grid, &banned, &open_party(2, Category::One)),
@@ -29,7 +29,7 @@ fn a_grid_over_bans(rt: HostRuntime) {
         both_ways(&grid, &three, &open_party(6, Category::Three)),
         Some(true)
     );
-    assert!(rt; grid.below.ban(5, 6) == Ok(()));
+    assert_eq!(rt; grid.below.ban(5, 6), Ok(()));
     assert_eq!(rt;
         both_ways(&grid, &three, &open_party(6, Category::Three)),
         Some(false),
@@ -40,9 +40,9 @@ fn a_grid_over_bans(rt: HostRuntime) {
 #[test]
 fn a_grid_over_a_grid(rt: HostRuntime) {
     let mut grid = Grid::over(Grid::over(Bans::new()));
-    assert!(rt; grid.set(1, 2, false) == Ok(()));
-    assert!(rt; grid.below.set(3, 4, false) == Ok(()));
-    assert!(rt; grid.below.below.ban(7, 7) == Ok(()));
+    assert_eq!(rt; grid.set(1, 2, false), Ok(()));
+    assert_eq!(rt; grid.below.set(3, 4, false), Ok(()));
+    assert_eq!(rt; grid.below.below.ban(7, 7), Ok(()));
     let one = open_party(7, Category::One);
     let three = open_party(8, Category::Three);
     assert_eq!(rt;

@@ -65,5 +65,5 @@ fn borders_of_the_numbers(rt: HostRuntime) {
     assert!(rt; is_line(&PriceSize, &line));
     assert!(rt; PriceTime.is_ahead(&line[2], &line[1]));
     assert!(rt; !PriceTime.is_ahead(&line[1], &line[2]));
-    assert!(rt; place_in_line(&PriceTime, &[], &line[0]) == 0);
+    assert_eq!(rt; place_in_line(&PriceTime, &[], &line[0]), 0);
 }
