@@ -63,7 +63,7 @@ fn appended(number: u64, digit: u8) -> Option<u64>
 }
 
 // The number that a word writes in decimal digits, in 64 bits.
-#[tactic(auto, using(crate::proofs::Numerals::stops, crate::proofs::Numerals::ends))]
+#[tactic(auto, using(crate::proofs::Numerals::stops))]
 fn decimal(word: &[u8]) -> Result<u64, LineFault>
     ensures { result ≡ number_of u64.MAX word.now }
 {
