@@ -1,9 +1,9 @@
 // An example of each answer.
-use book_lines::hex::encode;
 use orders::fields::{
     Capacity, Constraint, CrossStyle, InviteGrade, LeavesMode, Lots, Peg, Side, Terms, TimeInForce,
 };
 use orders::slip::{Letter, OldOrder, Slip, SlipKind};
+use session::hex::encode;
 use ubp::write_slip::write_slip;
 use words::slip::SlipWords;
 

@@ -1,6 +1,6 @@
 // One frame: read, told and written back.
-use book_lines::hex::encode;
 use orders::command::{CancelOrder, Command};
+use session::hex::encode;
 use std::alloc::{AllocError, Global};
 use ubp::read::read;
 use ubp::refusal::ReadRefusal;

@@ -1,5 +1,4 @@
 // The orders that frames bring, kept in the order in which they came. No book is kept: nothing trades, and no order is replaced or cancelled.
-use book_lines::item::FrameLine;
 use keyed::lent::{List, NotPushed};
 use orders::command::Command;
 use orders::enter::EnterOrder;
@@ -8,6 +7,7 @@ use orders::fields::{
 };
 use orders::party::Category;
 use resting::resident::Resident;
+use session::book_item::FrameLine;
 use std::fmt;
 
 // How many orders are kept at most.

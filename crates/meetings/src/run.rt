@@ -7,15 +7,16 @@ use crate::orders_kept::{MOST_ORDERS, keep, vacant};
 use crate::queues::tell_queues;
 use crate::{answers, settings};
 use anyhow::anyhow;
-use book_lines::file::cut_line;
-use book_lines::item::{FrameLine, Item};
-use book_lines::line::parse;
 use keyed::lent::List;
 use orders::command::Command;
 use policy::bans::Bans;
 use policy::grid::Grid;
 use policy::styles::Styles;
 use resting::resident::Resident;
+use session::book::parse;
+use session::book_item::{BookItem, FrameLine};
+use session::error::LineError;
+use session::file::cut_line;
 use std::io::Read;
 use std::{fmt, fs};
 use words::lines::{ReadLine, RefusalLine};
@@ -128,19 +129,20 @@ impl Replay<'_> {
     }
 
     fn take_line(&mut self, rt: &HostRuntime, number: u64, line: &[u8]) -> anyhow::Result<()> {
-        match parse(rt.alloc(), line)? {
-            Ok(Item::Nothing) => Ok(()),
-            Ok(Item::Read(frame)) => self.read_only(rt, number, frame.as_slice()),
-            Ok(Item::Frame(frame)) => self.take_frame(rt, number, &frame),
-            Ok(Item::Ban(ban)) => settings::ban(rt, self.output, &mut self.bans, ban),
-            Ok(Item::Grid(grid)) => {
+        match parse(rt.alloc(), line) {
+            Ok(BookItem::Nothing) => Ok(()),
+            Ok(BookItem::Read(frame)) => self.read_only(rt, number, frame.as_slice()),
+            Ok(BookItem::Frame(frame)) => self.take_frame(rt, number, &frame),
+            Ok(BookItem::Ban(ban)) => settings::ban(rt, self.output, &mut self.bans, ban),
+            Ok(BookItem::Grid(grid)) => {
                 if grid.depth == 0 {
                     settings::set(rt, self.output, &mut self.grid, grid)
                 } else {
                     self.report(rt, number, &"there is one grid, at depth 0")
                 }
             }
-            Err(fault) => self.report(rt, number, &fault),
+            Err(LineError::Fault(fault)) => self.report(rt, number, &fault),
+            Err(LineError::NoMemory(error)) => Err(error.into()),
         }
     }
 

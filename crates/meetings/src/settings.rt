@@ -1,10 +1,10 @@
 // The settings of the policies.
 use crate::options::Output;
-use book_lines::item::{BanLine, GridLine};
 use policy::bans::Bans;
 use policy::grid::Grid;
 use policy::refusal::PolicyRefusal;
 use policy::styles::Styles;
+use session::book_item::{BanLine, GridLine};
 use words::setting::SettingRefusalWords;
 
 // The number that answers a setting: 0, or the refusal's.

@@ -4,6 +4,7 @@ use crate::counts::Counts;
 use crate::frames::{line_of, tell};
 use crate::options::{Options, Output};
 use anyhow::anyhow;
+use session::error::LineError;
 use session::file::cut_line;
 use session::line::{Item, parse};
 use std::fs;
@@ -52,13 +53,14 @@ fn replay_line(
     line: &[u8],
     counts: &mut Counts,
 ) -> anyhow::Result<()> {
-    match parse(rt.alloc(), line)? {
+    match parse(rt.alloc(), line) {
         Ok(Item::Nothing) => {}
         Ok(Item::Read(frame)) => read_frame(rt, output, number, frame.as_slice(), counts)?,
-        Err(fault) => {
+        Err(LineError::Fault(fault)) => {
             eprintln!(rt; "line {number}: {fault}")?;
             counts.note_fault();
         }
+        Err(LineError::NoMemory(error)) => return Err(error.into()),
     }
     Ok(())
 }

@@ -1,6 +1,5 @@
 -- Bytes as text, two hex digits to a byte.
-use Rattle.std.specs.Prelude.{ℕ, ◌+◌, ◌-◌, ◌*◌, ◌/◌, ◌%◌, Bool, cond, ◌&&◌, List, [], ◌∷◌, Some, None, Ok, Err, vec_items, Option, Result, Vec, nat_le, nat_lt}
-use Rattle.std.specs.declared.alloc.Global.{Global}
+use Rattle.std.specs.Prelude.{ℕ, ◌+◌, ◌-◌, ◌*◌, ◌/◌, ◌%◌, Bool, cond, ◌&&◌, List, [], ◌∷◌, Some, None, Ok, Err, Option, Result, nat_le, nat_lt}
 use Rattle.session.specs.declared.fault.LineFault.{LineFault}
 use Rattle.session.specs.declared.fault.LineFault.TheVariants.{BadDigit, OddDigits}
 
@@ -40,8 +39,3 @@ letter n = cond (nat_lt n 10) (48 + n) (87 + n)
 abbrev pub hex_text : List ℕ → List ℕ
 hex_text [] = []
 hex_text (b ∷ bs) = letter (b / 16) ∷ letter (b % 16) ∷ hex_text bs
-
--- what a decoder answered, with the bytes in place of the vector that holds them
-abbrev pub contents : Result (Vec ℕ Global) LineFault → Result (List ℕ) LineFault
-contents (Ok v) = Ok (vec_items v)
-contents (Err e) = Err e

@@ -1,26 +1,28 @@
 -- How a line is cut into words.
-use Rattle.std.specs.Prelude.{ℕ, suc, ◌+◌, Bool, cond, not, ◌||◌, List, [], ◌∷◌, take, drop, ◌==◌}
-use Rattle.session.specs.declared.scan.Class.{Class}
-use Rattle.session.specs.declared.scan.Class.TheVariants.{Blank, Solid, Content, InLine}
+use Rattle.std.specs.Prelude.{ℕ, ◌+◌, Bool, true, false, not, ◌||◌, List, [], ◌∷◌, take, drop, length, take_while, ◌==◌}
 
--- a blank: a space, a tab or a carriage return
+-- what parts words: a space, a tab or a carriage return
 abbrev pub blank : ℕ → Bool
 blank b = b == 32 || b == 9 || b == 13
 
--- whether a class has the byte b; a comment begins with '#', 35, and a line ends with a line feed, 10
-abbrev pub has : Class → ℕ → Bool
-has Blank b = blank b
-has Solid b = not (blank b)
-has Content b = not (b == 35)
-has InLine b = not (b == 10)
+-- what stands in a word
+abbrev pub solid : ℕ → Bool
+solid b = not (blank b)
 
--- how many bytes at the front are of the class
-abbrev pub front_length : Class → List ℕ → ℕ
-front_length c [] = 0
-front_length c (b ∷ bs) = cond (has c b) (suc (front_length c bs)) 0
+-- what stands before a comment, which begins with '#', 35
+abbrev pub content : ℕ → Bool
+content b = not (b == 35)
+
+-- what stands in a line, which ends with a line feed, 10
+abbrev pub in_line : ℕ → Bool
+in_line b = not (b == 10)
+
+-- how many bytes at the front pass the test
+abbrev pub front_length : (ℕ → Bool) → List ℕ → ℕ
+front_length test text = length (take_while test text)
 
 abbrev pub line_length : List ℕ → ℕ
-line_length text = front_length InLine text
+line_length text = front_length in_line text
 
 -- the first line, without its line feed
 abbrev pub first_line : List ℕ → List ℕ
@@ -31,15 +33,20 @@ abbrev pub after_line : List ℕ → List ℕ
 after_line text = drop (line_length text + 1) text
 
 abbrev pub before_comment : List ℕ → List ℕ
-before_comment line = take (front_length Content line) line
+before_comment line = take (front_length content line) line
 
 abbrev pub without_blanks : List ℕ → List ℕ
-without_blanks text = drop (front_length Blank text) text
+without_blanks text = drop (front_length blank text) text
+
+-- whether there is no byte
+abbrev pub empty : List ℕ → Bool
+empty [] = true
+empty (b ∷ bs) = false
 
 -- the first word, or nothing
-abbrev pub word_of : List ℕ → List ℕ
-word_of text = take (front_length Solid (without_blanks text)) (without_blanks text)
+unfoldable pub word_of : List ℕ → List ℕ
+word_of text = take (front_length solid (without_blanks text)) (without_blanks text)
 
 -- what follows the first word
-abbrev pub rest_of : List ℕ → List ℕ
-rest_of text = drop (front_length Solid (without_blanks text)) (without_blanks text)
+unfoldable pub rest_of : List ℕ → List ℕ
+rest_of text = drop (front_length solid (without_blanks text)) (without_blanks text)

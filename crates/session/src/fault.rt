@@ -1,4 +1,7 @@
 // What can be wrong with a line of a session file.
+ghost use Rattle.std.specs.Prelude.{Some};
+ghost use Rattle.session.specs.Errors.{fault_text};
+
 use std::fmt;
 
 #[derive(Clone, Copy, PartialEq, Eq, Debug)]
@@ -13,16 +16,21 @@ pub enum LineFault {
     BadDigit,
     // a word of bytes has half a byte at its end
     OddDigits,
+    // a word that should be a number is none, or is one too large for its place
+    BadNumber,
 }
 
 impl fmt::Display for LineFault {
+    ghost output = { λ fault. Some (fault_text fault) };
+
     fn fmt<W: fmt::Write>(&self, f: &mut fmt::Formatter<W>) -> fmt::Result {
-        match self {
-            LineFault::UnknownItem => write!(f, "the first word names no item"),
-            LineFault::MissingWord => write!(f, "a word is missing"),
-            LineFault::ExtraWord => write!(f, "there is a word too many"),
-            LineFault::BadDigit => write!(f, "a character is no hex digit"),
-            LineFault::OddDigits => write!(f, "the number of hex digits is odd"),
-        }
+        f.write_str(match self {
+            LineFault::UnknownItem => "the first word names no item",
+            LineFault::MissingWord => "a word is missing",
+            LineFault::ExtraWord => "there is a word too many",
+            LineFault::BadDigit => "a character is no hex digit",
+            LineFault::OddDigits => "the number of hex digits is odd",
+            LineFault::BadNumber => "a word is no number, or one too large for its place",
+        })
     }
 }

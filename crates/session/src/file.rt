@@ -10,11 +10,8 @@ pub fn cut_line(text: &[u8]) -> (&[u8], &[u8])
     ensures rest { result.1.now ≡ after_line text.now }
     ensures shorter { 0 < length text.now → length result.1.now < length text.now }
 {
-    let end = line_length(text);
-    let line = &text[0..end];
-    if end < text.len() {
-        (line, &text[end + 1..])
-    } else {
-        (line, &[])
+    match text.split_at(line_length(text)) {
+        (line, [_feed, after @ ..]) => (line, after),
+        (line, []) => (line, &[]),
     }
 }

@@ -1,7 +1,9 @@
 // Bytes as hex digits, and back.
-ghost use Rattle.std.specs.Prelude.{◌≡◌, ◌<◌, IfSome, IfOk, Ok, string_bytes};
-ghost use Rattle.session.specs.Hex.{digit_of, byte_of, letter, hex_bytes, hex_text, contents};
+ghost use Rattle.std.specs.Prelude.{◌≡◌, ◌<◌, IfSome, IfOk, Ok, string_bytes, vec_items};
+ghost use Rattle.session.specs.Errors.{Reads};
+ghost use Rattle.session.specs.Hex.{digit_of, byte_of, letter, hex_bytes, hex_text};
 
+use crate::error::LineError;
 use crate::fault::LineFault;
 use std::alloc::{AllocError, Global};
 
@@ -28,22 +30,20 @@ fn byte_value(high: u8, low: u8) -> Option<u8>
 }
 
 // The bytes that the digits spell. An odd digit at the end is reported only where no digit before it is wrong.
-pub fn decode(heap: Global, digits: &[u8]) -> Result<Result<Vec<u8>, LineFault>, AllocError>
-    ensures { IfOk result (λ d. contents d ≡ hex_bytes digits.now) }
+pub fn decode(heap: Global, digits: &[u8]) -> Result<Vec<u8>, LineError>
+    ensures { Reads vec_items result (hex_bytes digits.now) }
 {
     let mut bytes = Vec::new(heap);
     let mut rest = digits;
     while let [high, low, after @ ..] = rest {
-        let Some(byte) = byte_value(*high, *low) else {
-            return Ok(Err(LineFault::BadDigit));
-        };
+        let byte = byte_value(*high, *low).ok_or(LineFault::BadDigit)?;
         bytes.push(byte)?;
         rest = after;
     }
     if rest.is_empty() {
-        Ok(Ok(bytes))
+        Ok(bytes)
     } else {
-        Ok(Err(LineFault::OddDigits))
+        Err(LineFault::OddDigits.into())
     }
 }
 

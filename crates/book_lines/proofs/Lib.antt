@@ -1,3 +1,0 @@
-pub mod Decoding
-pub mod Encoding
-pub mod Numerals

@@ -1,5 +1,0 @@
-pub mod Hex
-pub mod Scan
-pub mod Numbers
-pub mod Words
-pub mod Lines
