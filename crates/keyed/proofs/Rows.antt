@@ -1,125 +1,69 @@
--- Lists of records: what a push, a removal and a write leave. Assumes nothing.
-use Rattle.std.proofs.Common.{◌≡◌, ℕ, zero, suc, ◌+◌, ◌<◌, ◌≤◌, Bool, true, false, ◌≢◌, List, [], ◌∷◌, ◌++◌, length, get_or, take, drop, set, Some, None, Option, refl, ap, subst, inl, inr, arith}
-use lib.Seq.{paste}
-use Rattle.std.specs.List.{remove}
-use Rattle.std.proofs.lemmas.List.{take-take, drop-take, length_push, get_or_append_left, get_or_push, get_or_default, length-drop, length-set, get_or-set_same, get_or-set_other, get_or-drop}
-use Rattle.std.proofs.lemmas.List.Edits.{take-paste, drop-paste, length-remove, get_or-remove_below, get_or-remove_above}
-use Rattle.std.proofs.lemmas.Bool.{cases_lt, cases_eq, cases_order, cases_Bool, both_ways}
-use Rattle.keyed.specs.Keys.{NoTwice, Lacks, FirstAt, OnlyAt}
+-- Lists of records: which place has a key, and what a removal and a write leave. Assumes nothing.
+use Rattle.std.proofs.Common.{◌≡◌, ℕ, ◌+◌, ◌-◌, ◌<◌, ◌≤◌, Bool, true, List, length, ◌++◌, suc, get_or, take, drop, set, position, Some, None, Option, ◌∙◌, refl, sym, inl, inr, arith}
+use Rattle.std.specs.Cmp.{IsEquivalence}
+use Rattle.std.specs.List.{copy_within, remove}
+use Rattle.std.specs.Ordering.{on}
+use Rattle.std.proofs.lemmas.Bool.{cases_eq, cases_order, both_ways}
+use Rattle.std.proofs.lemmas.List.{take-take, drop-take, length-set, length-drop, get_or-set_same, get_or-set_other}
+use Rattle.std.proofs.lemmas.List.Edits.{take-paste}
+use Rattle.std.proofs.lemmas.List.Quantifiers.{position-Some}
+use Rattle.keyed.specs.Keys.{NoTwice, KeepsApart, Replaces, OnlyAt}
 
 module _ {X : Type 0} where
-  -- a gap closed in memory, as the records in use see it
-  pub gap_live : (xs : List X) (i m k n : ℕ) → k ≡ i + m → n ≡ k + 1 → n ≤ length xs → take k (paste xs i (drop (i + 1) xs) m) ≡ remove (take n xs) i
-  gap_live xs i m k n ek en le =
-      let e : n ≡ (i + 1) + m = omega arith in
-      let s : suc i ≡ i + 1 = omega arith in
-      let room : m ≤ length (drop (i + 1) xs) = simp length-drop (omega arith) in
-      let a = take-paste xs i (drop (i + 1) xs) m (omega arith) room in
-      let b = take-take i n xs (omega arith) in
-      let f = drop-take (i + 1) m xs in
-      cc
-
-  pub gap_past : (xs : List X) (i m k : ℕ) → k ≡ i + m → k < length xs → drop k (paste xs i (drop (i + 1) xs) m) ≡ drop k xs
-  gap_past xs i m k ek lt =
-      let room : m ≤ length (drop (i + 1) xs) = simp length-drop (omega arith) in
-      let a = drop-paste xs i (drop (i + 1) xs) m (omega arith) room in
-      cc
-
-  -- the next record to move down lies as it lay at first
-  pub gap_next : (xs : List X) (i m : ℕ) (x d : X) → i + m + 1 < length xs → x ≡ get_or (paste xs i (drop (i + 1) xs) m) (i + m + 1) x → x ≡ get_or (drop (i + 1) xs) m d
-  gap_next xs i m x d lt read =
-      let room : m ≤ length (drop (i + 1) xs) = simp length-drop (omega arith) in
-      let p = get_or-drop (i + m) (paste xs i (drop (i + 1) xs) m) 1 x in
-      let q = drop-paste xs i (drop (i + 1) xs) m (omega arith) room in
-      let r = get_or-drop (i + m) xs 1 x in
-      let s = get_or_default xs (i + m + 1) x d lt in
-      let t = get_or-drop (i + 1) xs m d in
-      let u : (i + 1) + m ≡ i + m + 1 = omega arith in
-      cc
-
-  module _ (same : X → X → Bool) where
-    pub apart_push : (xs : List X) (x : X) → Lacks (λ y. same y x) xs → NoTwice same xs → NoTwice same (xs ++ x ∷ [])
-    apart_push xs x new apart i j d ij lt =
-        let n = length_push xs x in
-        let low : i < length xs = omega arith in
-        let a = get_or_append_left xs (x ∷ []) d i low in
-        elim (cases_lt j (length xs)) [
-          | inl within ↦ let b = get_or_append_left xs (x ∷ []) d j within in let f = apart i j d ij within in cc
-          | inr past ↦ let b = get_or_push xs x d j (omega arith) in let f = new i d low in cc
-        ]
-
-    pub apart_removed : (xs : List X) (p : ℕ) → p < length xs → NoTwice same xs → NoTwice same (remove xs p)
-    apart_removed xs p in' apart i j d ij lt =
-        let n = length-remove xs p in' in
-        elim (cases_lt j p) [
-          | inl jp ↦
-              let a = get_or-remove_below xs p d i (omega arith) in' in
-              let b = get_or-remove_below xs p d j jp in' in
-              let f = apart i j d ij (omega arith) in
-              cc
-          | inr pj ↦
-              let b = get_or-remove_above xs p d j pj in' in
-              elim (cases_lt i p) [
-                | inl ip ↦ let a = get_or-remove_below xs p d i ip in' in let f = apart i (j + 1) d (omega arith) (omega arith) in cc
-                | inr pi ↦ let a = get_or-remove_above xs p d i pi in' in let f = apart (i + 1) (j + 1) d (omega arith) (omega arith) in cc
-              ]
-        ]
-
-    -- a record in the place of one with the same key
-    pub apart_set : ((x y : X) → same x y ≡ true → same y x ≡ true) → ((x y z : X) → same x y ≡ true → same y z ≡ true → same x z ≡ true) → (xs : List X) (p : ℕ) (x : X) → p < length xs → ((d : X) → same (get_or xs p d) x ≡ true) → NoTwice same xs → NoTwice same (set xs p x)
-    apart_set symm trans xs p x in' alike apart i j d ij lt =
-        let n = length-set xs p x in
-        let at_p = get_or-set_same xs p x d in' in
-        elim (cases_eq i p) [
-          | inl ip ↦
-              let pj : p < j = omega arith in
-              let ne : j ≢ p = omega arith in
-              let b = get_or-set_other xs p j x d ne in
-              let f = apart p j d pj (omega arith) in
-              let g : same x (get_or xs j d) ≡ false = elim (cases_Bool (same x (get_or xs j d))) [ inl yes' ↦ absurd (both_ways _ f (trans _ _ _ (alike d) yes')) | inr no' ↦ no' ] in
-              cc
-          | inr ip ↦
-              let a = get_or-set_other xs p i x d ip in
-              elim (cases_eq j p) [
-                | inl jp ↦
-                    let f = apart i p d (omega arith) in' in
-                    let g : same (get_or xs i d) x ≡ false = elim (cases_Bool (same (get_or xs i d) x)) [ inl yes' ↦ absurd (both_ways _ f (trans _ _ _ yes' (symm _ _ (alike d)))) | inr no' ↦ no' ] in
-                    cc
-                | inr jp ↦
-                    let b = get_or-set_other xs p j x d jp in
-                    let f = apart i j d ij (omega arith) in
-                    cc
-              ]
-        ]
-
-    pub apart_both : ((x y : X) → same x y ≡ true → same y x ≡ true) → ((x y z : X) → same x y ≡ true → same y z ≡ true → same x z ≡ true) → (xs : List X) (i j : ℕ) (a b : X) → i < length xs → j < length xs → ((d : X) → same (get_or xs i d) a ≡ true) → ((d : X) → same (get_or xs j d) b ≡ true) → NoTwice same xs → NoTwice same (set (set xs i a) j b)
-    apart_both symm trans xs i j a b ii ji at_i at_j apart =
-        let n = length-set xs i a in
-        let once = apart_set symm trans xs i a ii at_i apart in
-        let alike : (d : X) → same (get_or (set xs i a) j d) b ≡ true = λ d. elim (cases_eq j i) [
-          | inl e ↦
-              let p = get_or-set_same xs i a d ii in
-              let q = trans _ _ _ (symm _ _ (at_i d)) (subst (λ k. same (get_or xs k d) b ≡ true) e (at_j d)) in
-              cc
-          | inr ne ↦ let p = get_or-set_other xs i j a d ne in let q = at_j d in cc
-        ] in
-        apart_set symm trans (set xs i a) j b (omega arith) alike once
-
-  -- the first n of a list, by how many those are
-  pub take_in : (n : ℕ) (xs : List X) → take (length (take n xs)) xs ≡ take n xs
-  take_in zero xs = refl
-  take_in (suc n) [] = refl
-  take_in (suc n) (x ∷ xs) = ap (λ ys. x ∷ ys) (take_in n xs)
-
   -- where no key stands twice, the place found is the only one
-  pub only_found : {K : Type 0} (same : K → K → Bool) → ((x y : K) → same x y ≡ true → same y x ≡ true) → ((x y z : K) → same x y ≡ true → same y z ≡ true → same x z ≡ true) → (key : X → K) (w : K) (xs : List X) (o : Option ℕ) → FirstAt (λ x. same (key x) w) xs o → NoTwice (λ x y. same (key x) (key y)) xs → OnlyAt (λ x. same (key x) w) xs o
-  only_found same symm trans key w xs None f apart = tt
-  only_found same symm trans key w xs (Some i) f apart = λ k d lt hk.
-      let hi = f.1 d in
+  pub only_place : {K : Type 0} (eq : K → K → Bool) → IsEquivalence eq → (key : X → K) (w : K) (xs : List X) (o : Option ℕ) → position (λ x. eq (key x) w) xs ≡ o → NoTwice (on key eq) xs → OnlyAt (λ x. eq (key x) w) xs o
+  only_place eq laws key w xs None found apart = tt
+  only_place eq laws key w xs (Some i) found apart = λ k d lt hit.
+      let at_i = position-Some (λ x. eq (key x) w) xs i d found in
       elim (cases_order k i) [
-        | inl e ↦ e
+        | inl same ↦ same
         | inr other ↦ elim other [
-          | inl ki ↦ absurd (both_ways _ (apart k i d ki f.0) (trans _ _ _ hk (symm _ _ hi)))
-          | inr ik ↦ absurd (both_ways _ (apart i k d ik lt) (trans _ _ _ hi (symm _ _ hk)))
+          | inl before ↦ absurd (both_ways _ (at_i.2 k before) hit)
+          | inr after ↦ absurd (both_ways _ (apart i k d after lt) (laws.congr _ _ _ at_i.1 ∙ laws.symm _ _ ∙ hit))
         ]
       ]
+
+  -- a gap closed in memory, as the records in use see it
+  pub gap_live : (xs : List X) (i n : ℕ) → i < n → n ≤ length xs → take (n - 1) (copy_within xs (i + 1) n i) ≡ remove (take n xs) i
+  gap_live xs i n lt le =
+      let m = n - (i + 1) in
+      let room : m ≤ length (drop (i + 1) xs) = simp length-drop (omega arith) in
+      let a : take (i + m) (copy_within xs (i + 1) n i) ≡ take i xs ++ take m (drop (i + 1) xs) = take-paste xs i (drop (i + 1) xs) m (omega arith) room in
+      let b : take i (take n xs) ≡ take i xs = take-take i n xs (omega arith) in
+      let f : drop (i + 1) (take ((i + 1) + m) xs) ≡ take m (drop (i + 1) xs) = drop-take (i + 1) m xs in
+      let k : n - 1 ≡ i + m = omega arith in
+      let e : (i + 1) + m ≡ n = omega arith in
+      let s : suc i ≡ i + 1 = omega arith in
+      cc
+
+  module _ (same : X → X → Bool) (laws : IsEquivalence same) where
+    -- the records of ys have the same keys as those of xs, place by place
+    record Alike (xs ys : List X) : Type 0 where
+      long : length ys ≡ length xs
+      each : (k : ℕ) (d : X) → k < length xs → same (get_or xs k d) (get_or ys k d) ≡ true
+
+    alike_own : (xs : List X) → Alike xs xs
+    alike_own xs = record { long = refl; each = λ k d lt. laws.refl (get_or xs k d) }
+
+    -- a record over one with the same key
+    alike_set : (xs ys : List X) (p : ℕ) (x : X) → Replaces same xs p x → Alike xs ys → Alike xs (set ys p x)
+    alike_set xs ys p x replaces alike = record {
+      long = length-set ys p x ∙ alike.long;
+      each = λ k d lt. elim (cases_eq k p) [
+        | inl e ↦ let a = get_or-set_same ys p x d (omega (arith, alike.long)) in let b = replaces d (omega arith) in cc
+        | inr ne ↦ let a = get_or-set_other ys p k x d ne in let b = alike.each k d lt in cc
+      ];
+    }
+
+    apart_alike : (xs ys : List X) → Alike xs ys → KeepsApart same xs ys
+    apart_alike xs ys alike apart i j d ij lt =
+        let a = laws.congr _ _ (get_or ys j d) (alike.each i d (omega (arith, alike.long))) in
+        let b = laws.congr _ _ (get_or xs i d) (alike.each j d (omega (arith, alike.long))) in
+        let e = apart i j d ij (omega (arith, alike.long)) in
+        sym a ∙ laws.symm _ _ ∙ sym b ∙ laws.symm _ _ ∙ e
+
+    pub apart_set : (xs : List X) (p : ℕ) (x : X) → Replaces same xs p x → KeepsApart same xs (set xs p x)
+    apart_set xs p x replaces = apart_alike xs (set xs p x) (alike_set xs xs p x replaces (alike_own xs))
+
+    pub apart_both : (xs : List X) (p q : ℕ) (x y : X) → Replaces same xs p x → Replaces same xs q y → KeepsApart same xs (set (set xs p x) q y)
+    apart_both xs p q x y at_p at_q = apart_alike xs (set (set xs p x) q y) (alike_set xs (set xs p x) q y at_q (alike_set xs xs p x at_p (alike_own xs)))

@@ -1,10 +1,11 @@
 -- Keys in a list of records. A test `hit` says of one record whether it has the wanted key, and `same` says of two whether they have the same one.
--- Places count from 0. `get_or xs i d` is the record at the place i, or d where there is no such place; each statement is for every d, so it never hangs on one.
-use Rattle.std.specs.Prelude.{◌≡◌, ℕ, ◌<◌, Bool, true, false, List, length, Some, None, Option, slice_index_or}
+-- Places count from 0. `slice_index_or xs i d` is the record at the place i, or d where there is no such place; each statement is for every d, so it never hangs on one.
+use Rattle.std.specs.Prelude.{◌≡◌, ℕ, ◌<◌, Bool, true, false, List, length, All, AllPairs, SomeIndex, Some, None, Option, slice_index_or}
+use Rattle.std.specs.List.{HoldsAt}
 
 -- no two places hold records with the same key
 abbrev pub NoTwice : {X : Type 0} → (X → X → Bool) → List X → Type 0
-NoTwice {X} same xs = (i j : ℕ) (d : X) → i < j → j < length xs → same (slice_index_or xs i d) (slice_index_or xs j d) ≡ false
+NoTwice same = AllPairs (λ x y. same x y ≡ false)
 
 -- where no key stood twice before, none does after
 abbrev pub KeepsApart : {X : Type 0} → (X → X → Bool) → List X → List X → Type 0
@@ -16,21 +17,11 @@ Replaces {X} same xs i x = (d : X) → i < length xs → same (slice_index_or xs
 
 -- no record passes the test
 abbrev pub Lacks : {X : Type 0} → (X → Bool) → List X → Type 0
-Lacks {X} hit xs = (k : ℕ) (d : X) → k < length xs → hit (slice_index_or xs k d) ≡ false
+Lacks hit = All (λ x. hit x ≡ false)
 
 -- some record passes the test
 abbrev pub Has : {X : Type 0} → (X → Bool) → List X → Type 0
-Has {X} hit xs = (k : ℕ) × (k < length xs) × ((d : X) → hit (slice_index_or xs k d) ≡ true)
-
--- the answer to whether some record passes the test
-abbrev pub Holds : {X : Type 0} → (X → Bool) → List X → Bool → Type 0
-Holds hit xs true = Has hit xs
-Holds hit xs false = Lacks hit xs
-
--- the place answered is the first that passes the test; none is answered exactly where no place passes
-abbrev pub FirstAt : {X : Type 0} → (X → Bool) → List X → Option ℕ → Type 0
-FirstAt {X} hit xs None = Lacks hit xs
-FirstAt {X} hit xs (Some i) = (i < length xs) × ((d : X) → hit (slice_index_or xs i d) ≡ true) × ((k : ℕ) (d : X) → k < i → hit (slice_index_or xs k d) ≡ false)
+Has hit xs = SomeIndex xs (HoldsAt (λ x. hit x ≡ true) xs)
 
 -- the place answered is the only one that passes the test
 abbrev pub OnlyAt : {X : Type 0} → (X → Bool) → List X → Option ℕ → Type 0

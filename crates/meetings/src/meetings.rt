@@ -1,4 +1,5 @@
 // Who may meet whom: a table for each policy.
+use orders::party::Party;
 use policy::Policy;
 use policy::bans::Bans;
 use policy::grid::Grid;
@@ -9,7 +10,7 @@ use words::text::TextWords;
 
 fn tell_party(rt: &HostRuntime, order: &Resident) -> anyhow::Result<()> {
     let number = order.number;
-    let party = PartyRow(order.party());
+    let party = PartyRow(Party::from(order));
     let token = TextWords(&order.token);
     println!(rt; "  {number:>5}  {party}  {token}")?;
     Ok(())
@@ -22,10 +23,10 @@ fn tell_row<P: Policy>(
     orders: &[Resident],
 ) -> anyhow::Result<()> {
     let number = order.number;
-    let party = order.party();
+    let party = Party::from(order);
     print!(rt; "  {number:>5}")?;
     for other in orders {
-        let mark = if policy.allows(&party, &other.party()) {
+        let mark = if policy.allows(&party, &Party::from(other)) {
             "+"
         } else {
             "."

@@ -5,16 +5,16 @@ ghost use Rattle.resting.specs.Parties.{party_of};
 use crate::resident::Resident;
 use orders::party::Party;
 
-impl Resident {
-    // The order's party, as a policy sees it.
-    pub fn party(&self) -> Party
-        ensures { result ≡ party_of self.now }
-    {
+// The order's party, as a policy sees it.
+impl From<&Resident> for Party {
+    ghost from_gives = { λ order party. party ≡ party_of order.now };
+
+    fn from(order: &Resident) -> Party {
         Party {
-            client: self.client,
-            category: self.category,
-            capacity: self.terms.capacity,
-            style: self.terms.style,
+            client: order.client,
+            category: order.category,
+            capacity: order.terms.capacity,
+            style: order.terms.style,
         }
     }
 }

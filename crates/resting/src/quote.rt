@@ -1,8 +1,8 @@
 // The quotes, found by their stock.
+ghost use Rattle.std.specs.Prelude.{◌≡◌};
 ghost use Rattle.resting.specs.Keys.{same_stock, stock_key};
-ghost use Rattle.resting.specs.Bytes.{bytes_refl, bytes_sym, bytes_trans};
 
-use keyed::keys::{Key, Keyed};
+use keyed::keys::Keyed;
 use orders::fields::Stock;
 
 // A stock's best bid and ask in the open market, in ten-thousandths of a dollar.
@@ -14,23 +14,9 @@ pub struct Quote {
 }
 
 // What names a quote: each stock has one.
-#[derive(Clone, Copy)]
+#[derive(Clone, Copy, PartialEq, Eq)]
 pub struct StockKey {
     pub stock: Stock,
-}
-
-impl Key for StockKey {
-    ghost same = { same_stock };
-
-    ghost reflexive = { λ x. bytes_refl x.stock };
-
-    ghost symmetric = { λ x y. bytes_sym x.stock y.stock };
-
-    ghost transitive = { λ x y z. bytes_trans x.stock y.stock z.stock };
-
-    fn is_same(&self, other: &StockKey) -> bool {
-        self.stock == other.stock
-    }
 }
 
 impl Keyed for Quote {
@@ -38,7 +24,10 @@ impl Keyed for Quote {
 
     ghost key = { stock_key };
 
-    fn key_of(&self) -> StockKey {
+    fn key_of(&self) -> StockKey
+        ensures key { result ≡ stock_key self.now }
+        ensures same { (other : StockKey) → ⟦<StockKey as PartialEq>⟧.eq result other ≡ same_stock result other }
+    {
         StockKey { stock: self.stock }
     }
 }

@@ -36,20 +36,10 @@ fn order(number: u64, client: u32, token: Token) -> Resident {
     }
 }
 
-// The number of the order that the list finds, or 0.
-fn number_of(residents: &List<Resident>, client: u32, token: Token) -> u64 {
-    let records = residents.records();
-    match residents.find(&OrderKey { client, token }) {
-        Some(i) => records[i].number,
-        None => 0,
-    }
-}
-
-fn is_held(answer: Result<(), NotPushed>) -> bool {
-    match answer {
-        Ok(()) => false,
-        Err(why) => why == NotPushed::Held,
-    }
+// The number of the order that the list finds.
+fn number_of(residents: &List<Resident>, client: u32, token: Token) -> Option<u64> {
+    let place = residents.find(&OrderKey { client, token })?;
+    residents.records().get(place).map(|order| order.number)
 }
 
 #[test]
@@ -60,24 +50,27 @@ fn orders_by_client_and_token(rt: HostRuntime) {
     // another client, and another last byte
     assert!(rt; residents.push(order(2, 8, *b"BUY-1         ")).is_ok());
     assert!(rt; residents.push(order(3, 7, *b"BUY-1        \0")).is_ok());
-    assert!(rt; is_held(residents.push(order(4, 7, *b"BUY-1         "))));
-    assert!(rt; number_of(&residents, 7, *b"BUY-1         ") == 1);
-    assert!(rt; number_of(&residents, 8, *b"BUY-1         ") == 2);
-    assert!(rt; number_of(&residents, 7, *b"BUY-1        \0") == 3);
-    assert!(rt; number_of(&residents, 8, *b"BUY-1        \0") == 0);
+    assert_eq!(rt;
+        residents.push(order(4, 7, *b"BUY-1         ")),
+        Err(NotPushed::Held)
+    );
+    assert_eq!(rt; number_of(&residents, 7, *b"BUY-1         "), Some(1));
+    assert_eq!(rt; number_of(&residents, 8, *b"BUY-1         "), Some(2));
+    assert_eq!(rt; number_of(&residents, 7, *b"BUY-1        \0"), Some(3));
+    assert_eq!(rt; number_of(&residents, 8, *b"BUY-1        \0"), None);
 }
 
 fn quoted(stock: Stock, bid: i32, ask: i32) -> Quote {
     Quote { stock, bid, ask }
 }
 
-// The bid and the ask of a stock, or zeros.
-fn prices(quotes: &List<Quote>, stock: Stock) -> (i32, i32) {
-    let records = quotes.records();
-    match quotes.find(&StockKey { stock }) {
-        Some(i) => (records[i].bid, records[i].ask),
-        None => (0, 0),
-    }
+// The bid and the ask of a stock that the list finds.
+fn prices(quotes: &List<Quote>, stock: Stock) -> Option<(i32, i32)> {
+    let place = quotes.find(&StockKey { stock })?;
+    quotes
+        .records()
+        .get(place)
+        .map(|quote| (quote.bid, quote.ask))
 }
 
 #[test]
@@ -86,13 +79,17 @@ fn quotes_by_stock(rt: HostRuntime) -> Result<(), Fail> {
     let mut quotes = List::open(cells.as_mut_slice(), 2);
     assert!(rt; quotes.push(quoted(*b"ACME  ", 9900, 10100)).is_ok());
     assert!(rt; quotes.push(quoted(*b"ACMEA ", 200, 300)).is_ok());
-    assert!(rt; is_held(quotes.push(quoted(*b"ACME  ", 1, 2))));
-    match quotes.find(&StockKey { stock: *b"ACME  " }) {
-        Some(i) => assert!(rt; quotes.write_at(i, quoted(*b"ACME  ", 9950, 10050))),
-        None => assert!(rt; false),
-    }
-    assert!(rt; prices(&quotes, *b"ACME  ") == (9950, 10050));
-    assert!(rt; prices(&quotes, *b"ACMEA ") == (200, 300));
-    assert!(rt; prices(&quotes, *b"ACME\0\0") == (0, 0));
+    assert_eq!(rt; quotes.push(quoted(*b"ACME  ", 1, 2)), Err(NotPushed::Held));
+    let place = quotes
+        .find(&StockKey { stock: *b"ACME  " })
+        .expect(&rt, "a held stock");
+    assert!(rt;
+        quotes
+            .write_at(place, quoted(*b"ACME  ", 9950, 10050))
+            .is_ok()
+    );
+    assert_eq!(rt; prices(&quotes, *b"ACME  "), Some((9950, 10050)));
+    assert_eq!(rt; prices(&quotes, *b"ACMEA "), Some((200, 300)));
+    assert_eq!(rt; prices(&quotes, *b"ACME\0\0"), None);
     Ok(())
 }
