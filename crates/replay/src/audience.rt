@@ -1,17 +1,12 @@
 // Whom a run prints for.
 use words::counts::Counts;
 use words::examples::AnswerExamples;
-use words::frame::{FrameHeading, FrameRead};
+use words::frame::SessionFrame;
 use words::lines::ReadLine;
 
 pub(crate) trait Audience {
     // A frame that is read and written back.
-    fn tell_frame(
-        &self,
-        rt: &HostRuntime,
-        heading: &FrameHeading,
-        read: &FrameRead<'_>,
-    ) -> anyhow::Result<()>;
+    fn tell_frame(&self, rt: &HostRuntime, frame: &SessionFrame<'_>) -> anyhow::Result<()>;
 
     // What stands below the last frame.
     fn tell_end(&self, rt: &HostRuntime, counts: &Counts) -> anyhow::Result<()>;
@@ -25,14 +20,8 @@ pub(crate) struct People;
 pub(crate) struct Engines;
 
 impl Audience for People {
-    fn tell_frame(
-        &self,
-        rt: &HostRuntime,
-        heading: &FrameHeading,
-        read: &FrameRead<'_>,
-    ) -> anyhow::Result<()> {
-        println!(rt; "{heading}")?;
-        println!(rt; "{read}")?;
+    fn tell_frame(&self, rt: &HostRuntime, frame: &SessionFrame<'_>) -> anyhow::Result<()> {
+        println!(rt; "{frame}")?;
         Ok(())
     }
 
@@ -43,13 +32,8 @@ impl Audience for People {
 }
 
 impl Audience for Engines {
-    fn tell_frame(
-        &self,
-        rt: &HostRuntime,
-        _heading: &FrameHeading,
-        read: &FrameRead<'_>,
-    ) -> anyhow::Result<()> {
-        let line = ReadLine(read.frame);
+    fn tell_frame(&self, rt: &HostRuntime, frame: &SessionFrame<'_>) -> anyhow::Result<()> {
+        let line = ReadLine(frame.bytes);
         println!(rt; "{line}")?;
         Ok(())
     }

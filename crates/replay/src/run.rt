@@ -8,9 +8,9 @@ use session::line::{Item, parse};
 use std::io::Read;
 use std::{env, fs, iter};
 use words::counts::Counts;
-use words::frame::{FrameHeading, FrameRead};
+use words::frame::SessionFrame;
 
-// What the words of the command line ask for.
+// No contract can say what the environment or a file gives, so this function and the next stand in each program and in no library.
 fn options_of(rt: &HostRuntime) -> anyhow::Result<Options> {
     let mut options = Options::default();
     for word in env::args(rt)?.skip(1) {
@@ -19,7 +19,7 @@ fn options_of(rt: &HostRuntime) -> anyhow::Result<Options> {
     Ok(options)
 }
 
-// The session file's text. No contract can say what a file gives, so each program has this function, and no library.
+// The session file's text.
 fn text_of(rt: &HostRuntime, options: &Options) -> anyhow::Result<Vec<u8>> {
     if let Some(path) = &options.path {
         return match fs::read(rt, path.as_str()) {
@@ -41,15 +41,11 @@ struct Replay<'a, A> {
 }
 
 impl<A: Audience> Replay<'_, A> {
-    fn take_frame(&mut self, line: u64, frame: &[u8]) -> anyhow::Result<()> {
-        let read = FrameRead::from(frame);
-        self.counts.note(&read.answer);
-        let heading = FrameHeading {
-            number: self.counts.frames,
-            line,
-            length: frame.len(),
-        };
-        self.audience.tell_frame(self.rt, &heading, &read)
+    fn take_frame(&mut self, line: u64, bytes: &[u8]) -> anyhow::Result<()> {
+        let number = self.counts.frames.saturating_add(1);
+        let frame = SessionFrame::read(number, line, bytes);
+        self.counts.note(&frame.answer);
+        self.audience.tell_frame(self.rt, &frame)
     }
 
     // A line that is wrong is reported and passed over.
@@ -57,7 +53,7 @@ impl<A: Audience> Replay<'_, A> {
         let rt = self.rt;
         match parse(rt.alloc(), line) {
             Ok(Item::Nothing) => {}
-            Ok(Item::Read(frame)) => self.take_frame(number, frame.as_slice())?,
+            Ok(Item::Read(bytes)) => self.take_frame(number, bytes.as_slice())?,
             Err(LineError::Fault(fault)) => {
                 eprintln!(rt; "line {number}: {fault}")?;
                 self.counts.note_fault();
