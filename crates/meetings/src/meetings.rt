@@ -1,12 +1,51 @@
 // Who may meet whom: a table for each policy.
+use crate::gathered::Gathered;
 use orders::party::Party;
 use policy::Policy;
-use policy::bans::Bans;
-use policy::grid::Grid;
 use policy::styles::Styles;
 use resting::resident::Resident;
+use std::fmt;
 use words::party::{PARTY_COLUMNS, PartyRow};
 use words::text::TextWords;
+
+// A policy's answers for each two of the orders.
+#[derive(Clone, Copy)]
+struct Table<'a, P> {
+    policy: &'a P,
+    orders: &'a [Resident],
+}
+
+impl<P: Policy> Table<'_, P> {
+    fn show_row<W: fmt::Write>(&self, order: &Resident, f: &mut fmt::Formatter<W>) -> fmt::Result {
+        let number = order.number;
+        let party = Party::from(order);
+        write!(f, "  {number:>5}")?;
+        for other in self.orders {
+            let mark = if self.policy.allows(&party, &Party::from(other)) {
+                "+"
+            } else {
+                "."
+            };
+            write!(f, "{mark:>4}")?;
+        }
+        writeln!(f, "")
+    }
+}
+
+impl<P: Policy> fmt::Display for Table<'_, P> {
+    fn fmt<W: fmt::Write>(&self, f: &mut fmt::Formatter<W>) -> fmt::Result {
+        write!(f, "       ")?;
+        for order in self.orders {
+            let number = order.number;
+            write!(f, "{number:>4}")?;
+        }
+        writeln!(f, "")?;
+        for order in self.orders {
+            self.show_row(order, f)?;
+        }
+        Ok(())
+    }
+}
 
 fn tell_party(rt: &HostRuntime, order: &Resident) -> anyhow::Result<()> {
     let number = order.number;
@@ -16,62 +55,30 @@ fn tell_party(rt: &HostRuntime, order: &Resident) -> anyhow::Result<()> {
     Ok(())
 }
 
-fn tell_row<P: Policy>(
-    rt: &HostRuntime,
-    policy: &P,
-    order: &Resident,
-    orders: &[Resident],
-) -> anyhow::Result<()> {
-    let number = order.number;
-    let party = Party::from(order);
-    print!(rt; "  {number:>5}")?;
-    for other in orders {
-        let mark = if policy.allows(&party, &Party::from(other)) {
-            "+"
-        } else {
-            "."
-        };
-        print!(rt; "{mark:>4}")?;
-    }
-    println!(rt; "")?;
-    Ok(())
-}
-
 fn tell_table<P: Policy>(
     rt: &HostRuntime,
     name: &str,
     policy: &P,
     orders: &[Resident],
 ) -> anyhow::Result<()> {
+    let table = Table { policy, orders };
     println!(rt; "")?;
     println!(rt; "  Under {name}")?;
-    print!(rt; "       ")?;
-    for order in orders {
-        let number = order.number;
-        print!(rt; "{number:>4}")?;
-    }
-    println!(rt; "")?;
-    for order in orders {
-        tell_row(rt, policy, order, orders)?;
-    }
+    print!(rt; "{table}")?;
     Ok(())
 }
 
 // The parties of the orders, and the three tables.
-pub(crate) fn tell_meetings(
-    rt: &HostRuntime,
-    bans: &Bans,
-    grid: &Grid<Styles>,
-    orders: &[Resident],
-) -> anyhow::Result<()> {
+pub(crate) fn tell_meetings(rt: &HostRuntime, gathered: &Gathered<'_>) -> anyhow::Result<()> {
+    let orders = gathered.orders.records();
     println!(rt; "Who may meet whom: + may, . may not")?;
     println!(rt; "  order  {PARTY_COLUMNS}  token")?;
     for order in orders {
         tell_party(rt, order)?;
     }
     tell_table(rt, "Styles", &Styles, orders)?;
-    tell_table(rt, "Bans", bans, orders)?;
-    tell_table(rt, "Grid over Styles", grid, orders)?;
+    tell_table(rt, "Bans", &gathered.bans, orders)?;
+    tell_table(rt, "Grid over Styles", &gathered.grid, orders)?;
     println!(rt; "")?;
     Ok(())
 }

@@ -6,7 +6,6 @@ use ranking::offer::Offer;
 use ranking::price_size::PriceSize;
 use ranking::price_time::PriceTime;
 use resting::resident::Resident;
-use std::alloc::{AllocError, Global};
 use words::price::PriceWords;
 use words::text::TextWords;
 
@@ -38,28 +37,6 @@ fn are_rivals(order: &Resident, other: &Resident) -> bool {
     is_buy(order) == is_buy(other) && order.terms.stock == other.terms.stock
 }
 
-fn rivals_of(
-    heap: Global,
-    order: &Resident,
-    orders: &[Resident],
-) -> Result<Vec<Resident>, AllocError> {
-    let mut rivals = Vec::new(heap);
-    for other in orders {
-        if are_rivals(order, other) {
-            rivals.push(*other)?;
-        }
-    }
-    Ok(rivals)
-}
-
-fn offers_of(heap: Global, orders: &[Resident]) -> Result<Vec<Offer>, AllocError> {
-    let mut offers = Vec::new(heap);
-    for order in orders {
-        offers.push(offer_of(order))?;
-    }
-    Ok(offers)
-}
-
 fn tell_order(rt: &HostRuntime, place: usize, order: &Resident) -> anyhow::Result<()> {
     let number = order.number;
     let left = order.left;
@@ -76,19 +53,27 @@ fn tell_queue<R: Ranking>(
     orders: &[Resident],
 ) -> anyhow::Result<()> {
     println!(rt; "   {name}")?;
-    let offers = offers_of(rt.alloc(), orders)?;
-    for place in 0..orders.len() {
-        for order in orders {
-            if place_in_line(ranking, offers.as_slice(), &offer_of(order)) == place {
-                tell_order(rt, place.saturating_add(1), order)?;
-            }
-        }
+    let offers: Vec<Offer> = orders.iter().map(offer_of).collect(rt.alloc())?;
+    let mut queue: Vec<(usize, Resident)> = orders
+        .iter()
+        .map(|order| (
+            place_in_line(ranking, offers.as_slice(), &offer_of(order)),
+            *order,
+        ))
+        .collect(rt.alloc())?;
+    queue.sort_unstable_by_key(|(place, _)| *place);
+    for (place, order) in &queue {
+        tell_order(rt, place.saturating_add(1), order)?;
     }
     Ok(())
 }
 
 fn tell_rivals(rt: &HostRuntime, order: &Resident, orders: &[Resident]) -> anyhow::Result<()> {
-    let rivals = rivals_of(rt.alloc(), order, orders)?;
+    let rivals: Vec<Resident> = orders
+        .iter()
+        .filter(|other| are_rivals(order, other))
+        .copied()
+        .collect(rt.alloc())?;
     let side = if is_buy(order) { "Buys" } else { "Sells" };
     let stock = TextWords(&order.terms.stock);
     println!(rt; "  {side} of {stock}")?;
@@ -96,22 +81,13 @@ fn tell_rivals(rt: &HostRuntime, order: &Resident, orders: &[Resident]) -> anyho
     tell_queue(rt, "price-size", &PriceSize, rivals.as_slice())
 }
 
-// Whether a rival of the order stands before it.
-fn is_told(order: &Resident, before: &[Resident]) -> bool {
-    for other in before {
-        if are_rivals(order, other) {
-            return true;
-        }
-    }
-    false
-}
-
 // Each queue, where its first order stands.
 pub(crate) fn tell_queues(rt: &HostRuntime, orders: &[Resident]) -> anyhow::Result<()> {
     println!(rt; "Who goes ahead, by limit")?;
-    for i in 0..orders.len() {
-        if !is_told(&orders[i], &orders[0..i]) {
-            tell_rivals(rt, &orders[i], orders)?;
+    for (i, order) in orders.iter().enumerate() {
+        let is_told = orders.iter().take(i).any(|other| are_rivals(order, other));
+        if !is_told {
+            tell_rivals(rt, order, orders)?;
         }
     }
     println!(rt; "")?;

@@ -1,34 +1,32 @@
 // A whole run, from the words of the command line to the counts.
-use crate::counts::Counts;
-use crate::frames::{command_of, tell_command, tell_refusal};
-use crate::meetings::tell_meetings;
-use crate::options::{Options, Output};
-use crate::orders_kept::{MOST_ORDERS, keep, vacant};
-use crate::queues::tell_queues;
-use crate::{answers, settings};
+use crate::audience::Audience;
+use crate::engines::Engines;
+use crate::gathered::Gathered;
+use crate::orders_kept::{MOST_ORDERS, VACANT, keep};
+use crate::people::People;
+use crate::settings::{BanWords, GridWords};
 use anyhow::anyhow;
 use keyed::lent::List;
-use orders::command::Command;
+use options::{Options, Output};
 use policy::bans::Bans;
 use policy::grid::Grid;
 use policy::styles::Styles;
-use resting::resident::Resident;
 use session::book::parse;
-use session::book_item::{BookItem, FrameLine};
+use session::book_item::{BanLine, BookItem, FrameLine, GridLine};
 use session::error::LineError;
 use session::file::cut_line;
 use std::io::Read;
-use std::{fmt, fs};
-use words::lines::{ReadLine, RefusalLine};
+use std::{env, fmt, fs, iter};
+use words::counts::Counts;
+use words::frame::SessionFrame;
 
-// What is gathered line by line.
-#[derive(Drop)]
-pub(crate) struct Replay<'a> {
-    output: Output,
-    counts: Counts,
-    orders: List<'a, Resident>,
-    bans: Bans,
-    grid: Grid<Styles>,
+// No contract can say what the environment or a file gives, so this function and the next stand in each program and in no library.
+fn options_of(rt: &HostRuntime) -> anyhow::Result<Options> {
+    let mut options = Options::default();
+    for word in env::args(rt)?.skip(1) {
+        options = options.with(word)?;
+    }
+    Ok(options)
 }
 
 // The session file's text.
@@ -44,143 +42,110 @@ fn text_of(rt: &HostRuntime, options: &Options) -> anyhow::Result<Vec<u8>> {
     Ok(text)
 }
 
-// The frame's heading: who sent it, where it stands and how long it is.
-fn tell_heading(rt: &HostRuntime, number: u64, line: u64, frame: &[u8]) -> anyhow::Result<()> {
-    let size = frame.len();
-    println!(rt; "Frame {number}: line {line}, length {size}")?;
-    Ok(())
+// A run that goes on from line to line.
+#[derive(Drop)]
+struct Replay<'a, 'b, A> {
+    rt: &'a HostRuntime,
+    audience: A,
+    gathered: Gathered<'b>,
 }
 
-impl Replay<'_> {
-    // The frame's command, after the frame is told and counted.
-    fn tell_frame(
-        &mut self,
-        rt: &HostRuntime,
-        line: u64,
-        frame: &[u8],
-    ) -> anyhow::Result<Option<Command>> {
-        tell_heading(rt, self.counts.frames.saturating_add(1), line, frame)?;
-        match command_of(frame) {
-            Ok(command) => {
-                tell_command(rt, frame, &command)?;
-                self.counts.note_read();
-                Ok(Some(command))
-            }
-            Err(refusal) => {
-                tell_refusal(rt, refusal)?;
-                self.counts.note_refusal(refusal);
-                Ok(None)
-            }
-        }
-    }
-
-    // A frame that is only read and written back.
-    fn read_only(&mut self, rt: &HostRuntime, line: u64, frame: &[u8]) -> anyhow::Result<()> {
-        match self.output {
-            Output::Lines => {
-                let line = ReadLine(frame);
-                println!(rt; "{line}")?;
-            }
-            Output::Words => {
-                let _ = self.tell_frame(rt, line, frame)?;
-                println!(rt; "")?;
-            }
-        }
-        Ok(())
+impl<A: Audience> Replay<'_, '_, A> {
+    // The next frame, which is counted.
+    fn read_frame<'f>(&mut self, line: u64, bytes: &'f [u8]) -> SessionFrame<'f> {
+        let counts = &mut self.gathered.counts;
+        let frame = SessionFrame::read(counts.frames.saturating_add(1), line, bytes);
+        counts.note(&frame.answer);
+        frame
     }
 
     // A frame of a client, whose order is kept.
-    fn take_frame(&mut self, rt: &HostRuntime, line: u64, item: &FrameLine) -> anyhow::Result<()> {
-        let frame = item.bytes.as_slice();
-        match self.output {
-            Output::Lines => match command_of(frame) {
-                Ok(command) => {
-                    let _ = keep(&mut self.orders, item, &command);
-                }
-                Err(refusal) => {
-                    let line = RefusalLine(refusal);
-                    println!(rt; "{line}")?;
-                }
-            },
-            Output::Words => {
-                if let Some(command) = self.tell_frame(rt, line, frame)? {
-                    let outcome = keep(&mut self.orders, item, &command);
-                    let client = item.client;
-                    let category = item.category;
-                    println!(rt; "  From client {client}, source category {category}")?;
-                    println!(rt; "  {outcome}")?;
-                }
-                println!(rt; "")?;
+    fn take_frame(&mut self, number: u64, line: &FrameLine) -> anyhow::Result<()> {
+        let frame = self.read_frame(number, line.bytes.as_slice());
+        match &frame.answer {
+            Ok(command) => {
+                let kept = keep(&mut self.gathered.orders, line, command);
+                self.audience.tell_taken(self.rt, &frame, line, kept)
             }
+            Err(refusal) => self.audience.tell_refused(self.rt, &frame, *refusal),
         }
-        Ok(())
+    }
+
+    fn take_ban(&mut self, line: BanLine) -> anyhow::Result<()> {
+        let answer = self.gathered.bans.ban(line.first, line.second);
+        self.audience.tell_setting(self.rt, &BanWords(line), answer)
+    }
+
+    fn take_grid(&mut self, line: GridLine) -> anyhow::Result<()> {
+        let answer = self
+            .gathered
+            .grid
+            .set(line.category, line.other, line.meets);
+        self.audience
+            .tell_setting(self.rt, &GridWords(line), answer)
     }
 
     // A line that is wrong is reported and passed over.
-    fn report<D: fmt::Display>(
-        &mut self,
-        rt: &HostRuntime,
-        line: u64,
-        fault: &D,
-    ) -> anyhow::Result<()> {
-        eprintln!(rt; "line {line}: {fault}")?;
-        self.counts.note_fault();
+    fn report<D: fmt::Display>(&mut self, line: u64, fault: &D) -> anyhow::Result<()> {
+        eprintln!(self.rt; "line {line}: {fault}")?;
+        self.gathered.counts.note_fault();
         Ok(())
     }
 
-    fn take_line(&mut self, rt: &HostRuntime, number: u64, line: &[u8]) -> anyhow::Result<()> {
-        match parse(rt.alloc(), line) {
+    fn take_line(&mut self, number: u64, line: &[u8]) -> anyhow::Result<()> {
+        match parse(self.rt.alloc(), line) {
             Ok(BookItem::Nothing) => Ok(()),
-            Ok(BookItem::Read(frame)) => self.read_only(rt, number, frame.as_slice()),
-            Ok(BookItem::Frame(frame)) => self.take_frame(rt, number, &frame),
-            Ok(BookItem::Ban(ban)) => settings::ban(rt, self.output, &mut self.bans, ban),
-            Ok(BookItem::Grid(grid)) => {
-                if grid.depth == 0 {
-                    settings::set(rt, self.output, &mut self.grid, grid)
-                } else {
-                    self.report(rt, number, &"there is one grid, at depth 0")
-                }
+            Ok(BookItem::Read(bytes)) => {
+                let frame = self.read_frame(number, bytes.as_slice());
+                self.audience.tell_read(self.rt, &frame)
             }
-            Err(LineError::Fault(fault)) => self.report(rt, number, &fault),
+            Ok(BookItem::Frame(line)) => self.take_frame(number, &line),
+            Ok(BookItem::Ban(line)) => self.take_ban(line),
+            Ok(BookItem::Grid(line)) if line.depth == 0 => self.take_grid(line),
+            Ok(BookItem::Grid(_)) => self.report(number, &"there is one grid, at depth 0"),
+            Err(LineError::Fault(fault)) => self.report(number, &fault),
             Err(LineError::NoMemory(error)) => Err(error.into()),
         }
     }
 
-    // What people read at the end.
-    fn tell_end(&self, rt: &HostRuntime) -> anyhow::Result<()> {
-        let orders = self.orders.records();
-        if !orders.is_empty() {
-            tell_meetings(rt, &self.bans, &self.grid, orders)?;
-            tell_queues(rt, orders)?;
+    fn take_text(&mut self, text: &[u8]) -> anyhow::Result<()> {
+        let mut rest = text;
+        let lines = iter::from_fn(move || {
+            if rest.is_empty() {
+                return None;
+            }
+            let (line, after) = cut_line(rest);
+            rest = after;
+            Some(line)
+        });
+        for (number, line) in (1..=u64::MAX).zip(lines) {
+            self.take_line(number, line)?;
         }
-        answers::tell_all(rt)?;
-        let counts = self.counts;
-        print!(rt; "{counts}")?;
-        Ok(())
+        self.audience.tell_end(self.rt, &self.gathered)
     }
 }
 
-pub(crate) fn run(rt: &HostRuntime) -> anyhow::Result<()> {
-    let options = Options::from_args(rt)?;
-    let text = text_of(rt, &options)?;
-    let mut places = vec![in rt.alloc(); vacant(); MOST_ORDERS]?;
-    let mut replay = Replay {
-        output: options.output,
-        counts: Counts::NONE,
+fn run_for<A: Audience + Drop>(rt: &HostRuntime, text: &[u8], audience: A) -> anyhow::Result<()> {
+    let mut places = vec![in rt.alloc(); VACANT; MOST_ORDERS]?;
+    let gathered = Gathered {
+        counts: Counts::default(),
         orders: List::open(places.as_mut_slice(), MOST_ORDERS),
         bans: Bans::new(),
         grid: Grid::over(Styles),
     };
-    let mut number: u64 = 0;
-    let mut rest = text.as_slice();
-    while !rest.is_empty() {
-        let (line, after) = cut_line(rest);
-        number = number.saturating_add(1);
-        replay.take_line(rt, number, line)?;
-        rest = after;
+    let mut replay = Replay {
+        rt,
+        audience,
+        gathered,
+    };
+    replay.take_text(text)
+}
+
+pub(crate) fn run(rt: &HostRuntime) -> anyhow::Result<()> {
+    let options = options_of(rt)?;
+    let text = text_of(rt, &options)?;
+    match options.output {
+        Output::Words => run_for(rt, text.as_slice(), People),
+        Output::Lines => run_for(rt, text.as_slice(), Engines),
     }
-    if let Output::Words = options.output {
-        replay.tell_end(rt)?;
-    }
-    Ok(())
 }

@@ -1,67 +1,29 @@
-// The settings of the policies.
-use crate::options::Output;
-use policy::bans::Bans;
-use policy::grid::Grid;
-use policy::refusal::PolicyRefusal;
-use policy::styles::Styles;
+// The settings of the policies in words.
 use session::book_item::{BanLine, GridLine};
-use words::setting::SettingRefusalWords;
+use std::fmt;
 
-// The number that answers a setting: 0, or the refusal's.
-fn tell_number(rt: &HostRuntime, answer: Result<(), PolicyRefusal>) -> anyhow::Result<()> {
-    let number = match answer {
-        Ok(()) => 0,
-        Err(refusal) => refusal.number(),
-    };
-    println!(rt; "set {number}")?;
-    Ok(())
-}
+#[derive(Clone, Copy)]
+pub(crate) struct BanWords(pub BanLine);
 
-fn tell_refusal(rt: &HostRuntime, answer: Result<(), PolicyRefusal>) -> anyhow::Result<()> {
-    if let Err(refusal) = answer {
-        let words = SettingRefusalWords(refusal);
-        println!(rt; "  Refused {words}")?;
-    }
-    println!(rt; "")?;
-    Ok(())
-}
+#[derive(Clone, Copy)]
+pub(crate) struct GridWords(pub GridLine);
 
-pub(crate) fn ban(
-    rt: &HostRuntime,
-    output: Output,
-    bans: &mut Bans,
-    line: BanLine,
-) -> anyhow::Result<()> {
-    let BanLine { first, second } = line;
-    let answer = bans.ban(first, second);
-    match output {
-        Output::Lines => tell_number(rt, answer),
-        Output::Words => {
-            println!(rt; "Ban: clients {first} and {second} do not meet")?;
-            tell_refusal(rt, answer)
-        }
+impl fmt::Display for BanWords {
+    fn fmt<W: fmt::Write>(&self, f: &mut fmt::Formatter<W>) -> fmt::Result {
+        let BanLine { first, second } = self.0;
+        write!(f, "Ban: clients {first} and {second} do not meet")
     }
 }
 
-pub(crate) fn set(
-    rt: &HostRuntime,
-    output: Output,
-    grid: &mut Grid<Styles>,
-    line: GridLine,
-) -> anyhow::Result<()> {
-    let GridLine {
-        category,
-        other,
-        meets,
-        ..
-    } = line;
-    let answer = grid.set(category, other, meets);
-    match output {
-        Output::Lines => tell_number(rt, answer),
-        Output::Words => {
-            let verb = if meets { "meets" } else { "does not meet" };
-            println!(rt; "Grid: category {category} {verb} {other}")?;
-            tell_refusal(rt, answer)
-        }
+impl fmt::Display for GridWords {
+    fn fmt<W: fmt::Write>(&self, f: &mut fmt::Formatter<W>) -> fmt::Result {
+        let GridLine {
+            category,
+            other,
+            meets,
+            ..
+        } = self.0;
+        let verb = if meets { "meets" } else { "does not meet" };
+        write!(f, "Grid: category {category} {verb} {other}")
     }
 }

@@ -1,10 +1,7 @@
 // Replays a session file: reads each frame, says what it means and writes it back.
 #![tactic(auto)]
 
-mod answers;
-mod counts;
-mod frames;
-mod options;
+mod audience;
 mod run;
 #[cfg(test)]
 mod tests;

@@ -1,14 +1,23 @@
 // A whole run, from the words of the command line to the counts.
-use crate::answers;
-use crate::counts::Counts;
-use crate::frames::{line_of, tell};
-use crate::options::{Options, Output};
+use crate::audience::{Audience, Engines, People};
 use anyhow::anyhow;
+use options::{Options, Output};
 use session::error::LineError;
 use session::file::cut_line;
 use session::line::{Item, parse};
-use std::fs;
 use std::io::Read;
+use std::{env, fs, iter};
+use words::counts::Counts;
+use words::frame::SessionFrame;
+
+// No contract can say what the environment or a file gives, so this function and the next stand in each program and in no library.
+fn options_of(rt: &HostRuntime) -> anyhow::Result<Options> {
+    let mut options = Options::default();
+    for word in env::args(rt)?.skip(1) {
+        options = options.with(word)?;
+    }
+    Ok(options)
+}
 
 // The session file's text.
 fn text_of(rt: &HostRuntime, options: &Options) -> anyhow::Result<Vec<u8>> {
@@ -23,63 +32,68 @@ fn text_of(rt: &HostRuntime, options: &Options) -> anyhow::Result<Vec<u8>> {
     Ok(text)
 }
 
-fn read_frame(
-    rt: &HostRuntime,
-    output: Output,
-    line: u64,
-    frame: &[u8],
-    counts: &mut Counts,
-) -> anyhow::Result<()> {
-    match output {
-        Output::Lines => {
-            let answer = line_of(rt.alloc(), frame)?;
-            println!(rt; "{answer}")?;
-        }
-        Output::Words => {
-            let number = counts.frames.saturating_add(1);
-            let size = frame.len();
-            println!(rt; "Frame {number}: line {line}, length {size}")?;
-            counts.note(tell(rt, frame)?);
-        }
-    }
-    Ok(())
+// A run that goes on from line to line.
+#[derive(Drop)]
+struct Replay<'a, A> {
+    rt: &'a HostRuntime,
+    audience: A,
+    counts: Counts,
 }
 
-// A line that is wrong is reported and passed over.
-fn replay_line(
-    rt: &HostRuntime,
-    output: Output,
-    number: u64,
-    line: &[u8],
-    counts: &mut Counts,
-) -> anyhow::Result<()> {
-    match parse(rt.alloc(), line) {
-        Ok(Item::Nothing) => {}
-        Ok(Item::Read(frame)) => read_frame(rt, output, number, frame.as_slice(), counts)?,
-        Err(LineError::Fault(fault)) => {
-            eprintln!(rt; "line {number}: {fault}")?;
-            counts.note_fault();
-        }
-        Err(LineError::NoMemory(error)) => return Err(error.into()),
+impl<A: Audience> Replay<'_, A> {
+    fn take_frame(&mut self, line: u64, bytes: &[u8]) -> anyhow::Result<()> {
+        let number = self.counts.frames.saturating_add(1);
+        let frame = SessionFrame::read(number, line, bytes);
+        self.counts.note(&frame.answer);
+        self.audience.tell_frame(self.rt, &frame)
     }
-    Ok(())
+
+    // A line that is wrong is reported and passed over.
+    fn take_line(&mut self, number: u64, line: &[u8]) -> anyhow::Result<()> {
+        let rt = self.rt;
+        match parse(rt.alloc(), line) {
+            Ok(Item::Nothing) => {}
+            Ok(Item::Read(bytes)) => self.take_frame(number, bytes.as_slice())?,
+            Err(LineError::Fault(fault)) => {
+                eprintln!(rt; "line {number}: {fault}")?;
+                self.counts.note_fault();
+            }
+            Err(LineError::NoMemory(error)) => return Err(error.into()),
+        }
+        Ok(())
+    }
+
+    fn take_text(&mut self, text: &[u8]) -> anyhow::Result<()> {
+        let mut rest = text;
+        let lines = iter::from_fn(move || {
+            if rest.is_empty() {
+                return None;
+            }
+            let (line, after) = cut_line(rest);
+            rest = after;
+            Some(line)
+        });
+        for (number, line) in (1..=u64::MAX).zip(lines) {
+            self.take_line(number, line)?;
+        }
+        self.audience.tell_end(self.rt, &self.counts)
+    }
+}
+
+fn run_for<A: Audience + Drop>(rt: &HostRuntime, text: &[u8], audience: A) -> anyhow::Result<()> {
+    let mut replay = Replay {
+        rt,
+        audience,
+        counts: Counts::default(),
+    };
+    replay.take_text(text)
 }
 
 pub(crate) fn run(rt: &HostRuntime) -> anyhow::Result<()> {
-    let options = Options::from_args(rt)?;
+    let options = options_of(rt)?;
     let text = text_of(rt, &options)?;
-    let mut counts = Counts::NONE;
-    let mut number: u64 = 0;
-    let mut rest = text.as_slice();
-    while !rest.is_empty() {
-        let (line, after) = cut_line(rest);
-        number = number.saturating_add(1);
-        replay_line(rt, options.output, number, line, &mut counts)?;
-        rest = after;
+    match options.output {
+        Output::Words => run_for(rt, text.as_slice(), People),
+        Output::Lines => run_for(rt, text.as_slice(), Engines),
     }
-    if let Output::Words = options.output {
-        answers::tell_all(rt)?;
-        print!(rt; "{counts}")?;
-    }
-    Ok(())
 }

@@ -1,24 +1,22 @@
 // The lines that engines are compared by.
-use crate::frames::line_of;
-use std::process::Abort;
 use std::test::Fail;
-
-// The answer to the frame is this line.
-fn answers(rt: &(impl Abort + AllocGlobal), frame: &[u8], line: &str) -> Result<(), Fail> {
-    let answer = line_of(rt.alloc(), frame)?;
-    assert!(rt; answer.as_str() == line, "{line}");
-    Ok(())
-}
+use words::lines::ReadLine;
 
 #[test]
 fn a_frame_has_its_line(rt: HostRuntime) -> Result<(), Fail> {
-    answers(
-        &rt,
-        b"XABCDEFGHIJKLMN\x00\x00\x00\x00",
-        "read 584142434445464748494a4b4c4d4e00000000",
-    )?;
-    answers(&rt, b"", "refused 11")?;
-    answers(&rt, b"XABCDEFGHIJKLMN\x00\x00\x00", "refused 11")?;
-    answers(&rt, b"x", "refused 12")?;
-    answers(&rt, b"XABCDEFGHIJKLMN\x00\x00\x00\x01", "refused 13 15")
+    let cases: [(&[u8], &str); 5] = [
+        (
+            b"XABCDEFGHIJKLMN\x00\x00\x00\x00",
+            "read 584142434445464748494a4b4c4d4e00000000",
+        ),
+        (b"", "refused 11"),
+        (b"XABCDEFGHIJKLMN\x00\x00\x00", "refused 11"),
+        (b"x", "refused 12"),
+        (b"XABCDEFGHIJKLMN\x00\x00\x00\x01", "refused 13 15"),
+    ];
+    for (frame, line) in cases {
+        let answer = ReadLine(frame).to_string(rt.alloc())?;
+        assert_eq!(rt; answer.as_str(), line);
+    }
+    Ok(())
 }

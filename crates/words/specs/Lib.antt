@@ -1,4 +1,3 @@
 pub mod Fields
 pub mod Prices
 pub mod Counts
-pub mod Frames

@@ -1,7 +1,6 @@
-// Frames in words: the command that one brings, and whether writing it restores the frame.
-ghost use Rattle.std.specs.Prelude.{◌≡◌, Some, Err, MatchResult};
+// The frames of a session file in words: the command that one brings, and whether writing it restores the frame.
+ghost use Rattle.std.specs.Prelude.{◌≡◌, Err, MatchResult};
 ghost use Rattle.ubp.specs.Frames.{encoded, verdict};
-ghost use Rattle.words.specs.Frames.{heading_text};
 
 use crate::command::{COMMAND_ROOM, CommandWords};
 use crate::hex::Hex;
@@ -12,61 +11,45 @@ use ubp::read::read;
 use ubp::refusal::ReadRefusal;
 use ubp::write::write;
 
-// What stands above a frame in words: it is the frame of this number, in this line of a file, and has this length.
+// A frame of a session file, and what the reader answers of it.
 #[derive(Clone, Copy)]
-pub struct FrameHeading {
+pub struct SessionFrame<'a> {
     pub number: u64,
+    // the line that it stands in
     pub line: u64,
-    pub length: usize,
-}
-
-// A frame, and what the reader answers of it.
-#[derive(Clone, Copy)]
-pub struct FrameRead<'a> {
-    pub frame: &'a [u8],
+    pub bytes: &'a [u8],
     pub answer: Result<Command, ReadRefusal>,
 }
 
-// Whether writing a command gives the frame that brought it.
+// Whether writing a command gives the bytes that brought it.
 #[derive(Clone, Copy)]
 struct WrittenBack<'a> {
-    frame: &'a [u8],
+    bytes: &'a [u8],
     command: &'a Command,
 }
 
-// The command that a frame brings.
-fn command_of(frame: &[u8]) -> Result<Command, ReadRefusal>
-    ensures { MatchResult result (λ command. frame.now ≡ encoded command) (λ refusal. verdict frame.now ≡ Err refusal) }
+fn command_of(bytes: &[u8]) -> Result<Command, ReadRefusal>
+    ensures { MatchResult result (λ command. bytes.now ≡ encoded command) (λ refusal. verdict bytes.now ≡ Err refusal) }
 {
     let mut command = Command::Cancel(CancelOrder { token: [b' '; 14] });
-    read(frame, &mut command)?;
+    read(bytes, &mut command)?;
     Ok(command)
 }
 
-impl<'a> From<&'a [u8]> for FrameRead<'a> {
-    // the frame, and the command that has it or why there is none
-    ghost from_gives = { λ frame r.
-        (r.frame.now ≡ frame.now)
-        × MatchResult r.answer (λ command. frame.now ≡ encoded command) (λ refusal. verdict frame.now ≡ Err refusal) };
-
-    fn from(frame: &'a [u8]) -> FrameRead<'a> {
-        FrameRead {
-            frame,
-            answer: command_of(frame),
-        }
-    }
-}
-
-impl fmt::Display for FrameHeading {
-    ghost output = { λ heading. Some (heading_text heading.number heading.line heading.length) };
-
-    fn fmt<W: fmt::Write>(&self, f: &mut fmt::Formatter<W>) -> fmt::Result {
-        let FrameHeading {
+impl<'a> SessionFrame<'a> {
+    // The frame of this number, which stands in this line, is read: a command that is read has these bytes.
+    pub fn read(number: u64, line: u64, bytes: &'a [u8]) -> SessionFrame<'a>
+        ensures number { result.number ≡ number }
+        ensures line { result.line ≡ line }
+        ensures bytes { result.bytes.now ≡ bytes.now }
+        ensures answer { MatchResult result.answer (λ command. bytes.now ≡ encoded command) (λ refusal. verdict bytes.now ≡ Err refusal) }
+    {
+        SessionFrame {
             number,
             line,
-            length,
-        } = *self;
-        write!(f, "Frame {number}: line {line}, length {length}")
+            bytes,
+            answer: command_of(bytes),
+        }
     }
 }
 
@@ -75,7 +58,7 @@ impl fmt::Display for WrittenBack<'_> {
         let mut out = [0; COMMAND_ROOM];
         let length = write(self.command, &mut out).unwrap_or(0);
         let again = out.get(0..length).unwrap_or(&[]);
-        if again == self.frame {
+        if again == self.bytes {
             writeln!(f, "  Written back: the bytes are restored")
         } else {
             let hex = Hex(again);
@@ -84,13 +67,21 @@ impl fmt::Display for WrittenBack<'_> {
     }
 }
 
-impl fmt::Display for FrameRead<'_> {
+impl fmt::Display for SessionFrame<'_> {
     fn fmt<W: fmt::Write>(&self, f: &mut fmt::Formatter<W>) -> fmt::Result {
-        match self.answer {
+        let SessionFrame {
+            number,
+            line,
+            bytes,
+            answer,
+        } = *self;
+        let length = bytes.len();
+        writeln!(f, "Frame {number}: line {line}, length {length}")?;
+        match answer {
             Ok(command) => {
                 let words = CommandWords(&command);
                 let back = WrittenBack {
-                    frame: self.frame,
+                    bytes,
                     command: &command,
                 };
                 write!(f, "{words}{back}")
