@@ -65,8 +65,8 @@ fill_all b (y ∷ ys) e =
     rw k (ap (λ zs. b ∷ zs) (fill_all b ys h.1))
 
 -- a part that is filled with b
-pub fill_at : (b i n : ℕ) (xs : List ℕ) → i + n ≤ length xs → true ≡ all_are b (take n (drop i xs)) → take n (drop i xs) ≡ replicate n b
-fill_at b i n xs h a = fill_all b (take n (drop i xs)) (sym a) ∙ ap (λ m. replicate m b) (part_len i n xs h)
+pub fill_at : (b i n : ℕ) (xs : List ℕ) → i + n ≤ length xs → all_are b (take n (drop i xs)) ≡ true → take n (drop i xs) ≡ replicate n b
+fill_at b i n xs h a = fill_all b (take n (drop i xs)) a ∙ ap (λ m. replicate m b) (part_len i n xs h)
 
 -- a number of four bytes, written again
 four : (a b c d : ℕ) → a < 256 → b < 256 → c < 256 → d < 256 → a ∷ b ∷ c ∷ d ∷ [] ≡ bytes4 (a * 16777216 + b * 65536 + c * 256 + d)
@@ -144,28 +144,6 @@ pub code_at : {V : Type 0} (code : V → ℕ) (vs : List V) (i : ℕ) (xs : List
 code_at code vs i xs h e =
     let l : 1 ≤ length (drop i xs) = simp length-drop (omega arith) in
     take1 (drop i xs) l ∙ ap (λ b. b ∷ []) (get_or-drop i xs 0 0 ∙ ap (λ k. get_or xs k 0) (add-zero i) ∙ coded_code code vs (get_or xs i 0) e)
-
--- what was converted has a value where one was found
-pub found : {V E : Type 0} (r : Result V E) {o : Option V} → result_ok r ≡ o → is_ok r ≡ is_some o
-found (Ok v) e = ap is_some e
-found (Err d) e = ap is_some e
-
--- one more test of a list of tests
-pub test : (n : ℕ) {a b : Bool} {ts us : List (ℕ × Bool)} → a ≡ b → ts ≡ us → (n, a) ∷ ts ≡ (n, b) ∷ us
-test n {a} {b} {ts} {us} p q = ap (λ x. (n, x) ∷ ts) p ∙ ap (λ xs. (n, b) ∷ xs) q
-
-pub no_test : ◌≡◌ {A = List (ℕ × Bool)} [] []
-no_test = refl
-
-passed : (n : ℕ) (b : Bool) (ts : List (ℕ × Bool)) → first_bad ((n, b) ∷ ts) ≡ Ok tt → (b ≡ true) × (first_bad ts ≡ Ok tt)
-passed n true ts e = (refl, e)
-passed n false ts e = let z : ◌≡◌ {A = ℕ} 0 1 = cc in absurd (omega arith)
-
--- where no test failed, each passed
-pub passes : (ts : List (ℕ × Bool)) → first_bad ts ≡ Ok tt → (k : ℕ) → (get_or ts k (0, true)).1 ≡ true
-passes [] e k = refl
-passes ((n, b) ∷ ts) e zero = (passed n b ts e).0
-passes ((n, b) ∷ ts) e (suc k) = passes ts (passed n b ts e).1 k
 
 -- a number at i that stands for a value
 pub coded_at : {V : Type 0} (code : V → ℕ) (vs : List V) (i : ℕ) (xs : List ℕ) (t : Bytes xs) (h : i + 4 ≤ length xs) {m : ℕ} {v : V} → m ≡ big4 (take (length xs - i) (drop i xs)) → coded code vs m ≡ Some v → take 4 (drop i xs) ≡ bytes4 (code v)
