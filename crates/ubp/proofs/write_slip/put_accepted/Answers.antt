@@ -2,12 +2,8 @@ use Rattle.std.proofs.Common.{[], ◌∷◌, ◌++◌, drop, replicate, refl, ap
 use Rattle.orders.specs.Codes.{kind_byte}
 use Rattle.ubp.specs.Answers.{head_fields, order_fields, accepted_fields, shown}
 use Rattle.ubp.proofs.Layouts.{after}
-use Rattle.ubp.proofs.Parts.{more, more_by, short, wrote}
-use Rattle.ubp.proofs.write_slip.write_accepted.Goals as goal
-
-pub returns-then-out-lt84 : goal.returns-then-out-lt84
-unfolding head_fields order_fields accepted_fields
-returns-then-out-lt84 c = short c.if-out-lt84.true
+use Rattle.ubp.proofs.Parts.{more, more_by, begun_as}
+use Rattle.ubp.proofs.write_slip.put_accepted.Goals as goal
 
 pub returns : goal.returns
 unfolding head_fields order_fields accepted_fields
@@ -23,4 +19,4 @@ returns c =
     let w6 = more_by 1 ((shown s.terms).grade ∷ []) w5 (ap (λ x. x.grade ∷ []) t) refl c.put-6.ensures in
     let w7 = more 4 (replicate 4 0) w6 refl c.put-7.ensures in
     let w8 = more_by 1 ((shown s.terms).lots ∷ []) w7 (ap (λ x. x.lots ∷ []) t) refl c.put-8.ensures in
-    wrote c.if-out-lt84.false w8 (after (kind_byte s.kind) (head_fields ++ order_fields) (drop 15 accepted_fields) s refl)
+    begun_as w8 (after (kind_byte s.kind) (head_fields ++ order_fields) (drop 15 accepted_fields) s refl)

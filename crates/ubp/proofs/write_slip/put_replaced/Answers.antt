@@ -2,12 +2,8 @@ use Rattle.std.proofs.Common.{◌≡◌, [], ◌∷◌, ◌++◌, length, drop, 
 use Rattle.orders.specs.Codes.{kind_byte}
 use Rattle.ubp.specs.Answers.{head_fields, order_fields, replaced_fields, shown}
 use Rattle.ubp.proofs.Layouts.{after}
-use Rattle.ubp.proofs.Parts.{more, more_by, short, wrote}
-use Rattle.ubp.proofs.write_slip.write_replaced.Goals as goal
-
-pub returns-then-out-lt98 : goal.returns-then-out-lt98
-unfolding head_fields order_fields replaced_fields
-returns-then-out-lt98 c = short c.if-out-lt98.true
+use Rattle.ubp.proofs.Parts.{more, more_by, begun_as}
+use Rattle.ubp.proofs.write_slip.put_replaced.Goals as goal
 
 pub returns : goal.returns
 unfolding head_fields order_fields replaced_fields
@@ -25,4 +21,4 @@ returns c =
     let w7 = more 1 (replicate 1 32) w6 refl c.put-7.ensures in
     let w8 = more 4 (replicate 4 0) w7 refl c.put-8.ensures in
     let w9 = more_by 1 ((shown s.terms).lots ∷ []) w8 (ap (λ x. x.lots ∷ []) t) refl c.put-9.ensures in
-    wrote c.if-out-lt98.false w9 (after (kind_byte s.kind) (head_fields ++ order_fields) (drop 15 replaced_fields) s refl)
+    begun_as w9 (after (kind_byte s.kind) (head_fields ++ order_fields) (drop 15 replaced_fields) s refl)

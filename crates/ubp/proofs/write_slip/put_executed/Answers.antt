@@ -4,12 +4,8 @@ use Rattle.orders.specs.Codes.{kind_byte, letter_byte}
 use Rattle.ubp.specs.Bytes.{bytes4, bytes8}
 use Rattle.ubp.specs.Answers.{head_fields, executed_fields}
 use Rattle.ubp.proofs.Layouts.{after}
-use Rattle.ubp.proofs.Parts.{more_by, short, wrote}
-use Rattle.ubp.proofs.write_slip.write_executed.Goals as goal
-
-pub returns-then-out-lt40 : goal.returns-then-out-lt40
-unfolding head_fields executed_fields
-returns-then-out-lt40 c = short c.if-out-lt40.true
+use Rattle.ubp.proofs.Parts.{more_by, begun_as}
+use Rattle.ubp.proofs.write_slip.put_executed.Goals as goal
 
 pub returns : goal.returns
 unfolding head_fields executed_fields
@@ -21,4 +17,4 @@ returns c =
     let w2 = more_by 4 (bytes4 (of_z w32 s.price)) w1 (c.to_be_bytes-2.ensures ∙ ap (λ z. bytes4 (of_z w32 z)) (to_z-of_z w32 s.price p)) refl c.put-2.ensures in
     let w3 = more_by 1 (letter_byte s.letter ∷ []) w2 (ap (λ b. b ∷ []) c.from.ensures) refl c.put-3.ensures in
     let w4 = more_by 8 (bytes8 s.match_number) w3 c.to_be_bytes-3.ensures refl c.put-4.ensures in
-    wrote c.if-out-lt40.false w4 (after (kind_byte s.kind) head_fields (drop 2 executed_fields) s refl)
+    begun_as w4 (after (kind_byte s.kind) head_fields (drop 2 executed_fields) s refl)

@@ -3,12 +3,8 @@ use Rattle.orders.specs.Codes.{kind_byte, letter_byte}
 use Rattle.ubp.specs.Bytes.{bytes4}
 use Rattle.ubp.specs.Answers.{head_fields, cancelled_fields}
 use Rattle.ubp.proofs.Layouts.{after}
-use Rattle.ubp.proofs.Parts.{more_by, short, wrote}
-use Rattle.ubp.proofs.write_slip.write_cancelled.Goals as goal
-
-pub returns-then-out-lt28 : goal.returns-then-out-lt28
-unfolding head_fields cancelled_fields
-returns-then-out-lt28 c = short c.if-out-lt28.true
+use Rattle.ubp.proofs.Parts.{more_by, begun_as}
+use Rattle.ubp.proofs.write_slip.put_cancelled.Goals as goal
 
 pub returns : goal.returns
 unfolding head_fields cancelled_fields
@@ -17,4 +13,4 @@ returns c =
     let w0 = c.put_head.ensures in
     let w1 = more_by 4 (bytes4 s.shares) w0 c.to_be_bytes.ensures refl c.put.ensures in
     let w2 = more_by 1 (letter_byte s.letter ∷ []) w1 (ap (λ b. b ∷ []) c.from.ensures) refl c.put-2.ensures in
-    wrote c.if-out-lt28.false w2 (after (kind_byte s.kind) head_fields (drop 2 cancelled_fields) s refl)
+    begun_as w2 (after (kind_byte s.kind) head_fields (drop 2 cancelled_fields) s refl)

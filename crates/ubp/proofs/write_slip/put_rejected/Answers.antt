@@ -2,12 +2,8 @@ use Rattle.std.proofs.Common.{[], ◌∷◌, drop, refl, ap}
 use Rattle.orders.specs.Codes.{kind_byte, letter_byte}
 use Rattle.ubp.specs.Answers.{head_fields, rejected_fields}
 use Rattle.ubp.proofs.Layouts.{after}
-use Rattle.ubp.proofs.Parts.{more_by, short, wrote}
-use Rattle.ubp.proofs.write_slip.write_rejected.Goals as goal
-
-pub returns-then-out-lt24 : goal.returns-then-out-lt24
-unfolding head_fields rejected_fields
-returns-then-out-lt24 c = short c.if-out-lt24.true
+use Rattle.ubp.proofs.Parts.{more_by, begun_as}
+use Rattle.ubp.proofs.write_slip.put_rejected.Goals as goal
 
 pub returns : goal.returns
 unfolding head_fields rejected_fields
@@ -15,4 +11,4 @@ returns c =
     let s = c.args.slip.now in
     let w0 = c.put_head.ensures in
     let w1 = more_by 1 (letter_byte s.letter ∷ []) w0 (ap (λ b. b ∷ []) c.from.ensures) refl c.put.ensures in
-    wrote c.if-out-lt24.false w1 (after (kind_byte s.kind) head_fields (drop 2 rejected_fields) s refl)
+    begun_as w1 (after (kind_byte s.kind) head_fields (drop 2 rejected_fields) s refl)

@@ -3,17 +3,13 @@ use Rattle.orders.specs.Codes.{style_byte, peg_byte, lots_byte}
 use Rattle.ubp.specs.Bytes.{bytes4}
 use Rattle.ubp.specs.Commands.{replace_type, replace_fields}
 use Rattle.ubp.proofs.Layouts.{after}
-use Rattle.ubp.proofs.Parts.{more, more_by, short, wrote}
-use Rattle.ubp.proofs.write.write_replace.Goals as goal
-
-pub returns-then-out-lt60 : goal.returns-then-out-lt60
-unfolding replace_fields
-returns-then-out-lt60 c = short c.if-out-lt60.true
+use Rattle.ubp.proofs.Parts.{more, more_by, begun_as}
+use Rattle.ubp.proofs.write.ReplaceOrderMessage.put.Goals as goal
 
 pub returns : goal.returns
 unfolding replace_fields
 returns c =
-    let m = c.args.order.now in
+    let m = c.args.self.now in
     let w0 = c.put_replace_trade.ensures in
     let w1 = more 1 (replicate 1 32) w0 refl c.put.ensures in
     let w2 = more 1 (replicate 1 32) w1 refl c.put-2.ensures in
@@ -25,4 +21,4 @@ returns c =
     let w8 = more 1 (replicate 1 32) w7 refl c.put-8.ensures in
     let w9 = more 4 (replicate 4 0) w8 refl c.put-9.ensures in
     let w10 = more_by 1 (lots_byte m.lots ∷ []) w9 (ap (λ b. b ∷ []) c.from-3.ensures) refl c.put-10.ensures in
-    wrote c.if-out-lt60.false w10 (after replace_type (take 5 replace_fields) (drop 5 replace_fields) m refl)
+    begun_as w10 (after replace_type (take 5 replace_fields) (drop 5 replace_fields) m refl)
