@@ -1,6 +1,6 @@
 -- A reader's verdict by the length of what follows the first byte.
-use Rattle.std.proofs.Common.{◌≡◌, ℕ, zero, suc, Bool, true, false, cond, eqb, ◌≢◌, List, [], ◌∷◌, length, get_or, ◌-◌, take, drop, is_some, Some, None, IsErrAnd, Ok, Err, Result, sym, refl, ap, ◌∙◌, arith, eq-eqb}
-use Rattle.ubp.specs.declared.refusal.ReadRefusal.TheVariants.{WrongLength, BadField}
+use Rattle.std.proofs.Common.{◌≡◌, ℕ, Bool, true, false, cond, eqb, List, ◌∷◌, length, get_or, ◌-◌, take, drop, is_some, Some, None, IsErrAnd, Ok, Err, Result, sym, ap, ◌∙◌, eq-eqb}
+use Rattle.ubp.specs.declared.refusal.ReadRefusal.TheVariants.{BadField}
 use Rattle.ubp.specs.declared.refusal.ReadRefusal.{ReadRefusal}
 use Rattle.orders.specs.Codes.{coded}
 use Rattle.std.proofs.lemmas.List.{take_rest}
@@ -10,9 +10,6 @@ use Rattle.ubp.specs.Frames.{Verdict, first_bad, fields_verdict, Reads}
 use Rattle.ubp.proofs.Layouts.{here}
 
 module _ {C : Type 0} (b : ℕ) (fs : List (Field C)) (f : List ℕ) (n : ℕ) (size : size_of fs ≡ n) where
-  pub wrong_length : length f ≢ n → Err WrongLength ≡ fields_verdict b fs f
-  wrong_length h = let e : eqb (length f) (size_of fs) ≡ false = rw size (grind arith) in sym (rw e)
-
   pub right_length : length f ≡ n → {v : Verdict} → v ≡ first_bad (tests 1 fs (b ∷ f)) → v ≡ fields_verdict b fs f
   right_length h e = let t : eqb (length f) (size_of fs) ≡ true = rw size (eq-eqb (length f) n h) in e ∙ sym (rw t)
 
@@ -39,6 +36,3 @@ module _ {V : Type 0} (code : V → ℕ) (vs : List V) (i : ℕ) (f : List ℕ) 
 
   pub number_listed : {m : ℕ} {v : V} → m ≡ big4 (take (length f - i) (drop i f)) → Some v ≡ coded code vs m → is_some (coded code vs (big4 (drop i f))) ≡ true
   number_listed h e = ap (λ n. is_some (coded code vs n)) (ap big4 (sym (take_rest f i)) ∙ sym h) ∙ ap is_some (sym e)
-
-  pub number_unlisted : {m : ℕ} → m ≡ big4 (take (length f - i) (drop i f)) → None ≡ coded code vs m → is_some (coded code vs (big4 (drop i f))) ≡ false
-  number_unlisted h e = ap (λ n. is_some (coded code vs n)) (ap big4 (sym (take_rest f i)) ∙ sym h) ∙ ap is_some (sym e)

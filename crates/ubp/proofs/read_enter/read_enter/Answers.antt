@@ -1,4 +1,4 @@
-use Rattle.std.proofs.Common.{◌≡◌, ℕ, ◌-◌, true, false, List, ◌∷◌, length, get_or, take, drop, Some, sym, refl, ◌∙◌, arith}
+use Rattle.std.proofs.Common.{◌≡◌, ℕ, ◌-◌, true, List, ◌∷◌, length, get_or, take, drop, Some, sym, refl, ◌∙◌, arith}
 use Rattle.orders.specs.Codes.{side_byte, sides, side_of, time_number, times, time_of, capacity_byte, capacities, capacity_of, constraint_byte, constraints, leaves_byte, leaves_modes, leaves_of, style_byte, styles, style_of, peg_byte, pegs, peg_of, grade_number, grades, lots_byte, lots_kinds}
 use Rattle.orders.specs.declared.fields.Side.{Side}
 use Rattle.orders.specs.declared.fields.TimeInForce.{TimeInForce}
@@ -46,7 +46,7 @@ returns-in_err-constraint c =
     refused enter_type enter_fields f 66 refl c.if-fields-ne66.false r.result r.ensures.1
     (to_firm f c.in_ok-side.ensures c.number.ensures c.in_ok-time.ensures
     (to_minimum f c.in_ok-reserved.ensures c.in_ok-capacity.ensures c.in_ok-reserved-2.ensures c.in_ok-reserved-3.ensures
-    (let e = c.in_err-constraint.ensures in stop 46 _ (e.0, sym (nine_on 45 f beside_peg) ∙ e.1))))
+    (let e = c.in_err-constraint.ensures in stop 46 (from 47 13 f) (e.0, sym (nine_on 45 f beside_peg) ∙ e.1))))
 
 pub returns-in_err-reserved-4 : goal.returns-in_err-reserved-4
 unfolding enter_fields

@@ -1,4 +1,4 @@
-use Rattle.std.proofs.Common.{◌≡◌, length, sym, refl, rules, arith}
+use Rattle.std.proofs.Common.{◌≡◌, length, sym, refl, arith}
 use Rattle.orders.specs.Codes.{time_number, times, style_byte, styles, peg_byte, pegs, lots_byte, lots_kinds}
 use Rattle.ubp.specs.Commands.{replace_type, replace_fields}
 use Rattle.ubp.proofs.Parts.{part, ends, copy_at, fill_at, number_at, signed_at, coded_at, code_at}
