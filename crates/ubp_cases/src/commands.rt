@@ -1,5 +1,5 @@
 // Each command, read field by field and written into buffers of all lengths.
-use crate::buffers::command_is_written;
+use crate::buffers::is_written;
 use crate::codes::same_terms;
 use crate::frames::{CANCEL, ENTER, REPLACE, any_command};
 use orders::command::Command;
@@ -7,6 +7,7 @@ use orders::fields::{
     Capacity, Constraint, CrossStyle, InviteGrade, LeavesMode, Lots, Peg, Side, Terms, TimeInForce,
 };
 use ubp::read::read;
+use ubp::write::write;
 
 const TERMS: Terms = Terms {
     side: Side::SellShort,
@@ -27,7 +28,12 @@ const TERMS: Terms = Terms {
 fn enter_is_read_field_by_field_and_written(rt: HostRuntime) {
     let mut command = any_command();
     assert!(rt; read(&ENTER, &mut command).is_ok());
-    command_is_written(&rt, &command, &ENTER, &"enter");
+    is_written(
+        &rt,
+        |out| write(&command, out).map_err(|refused| refused.number()),
+        &ENTER,
+        &"enter",
+    );
     let Command::Enter(order) = command else {
         panic!(rt; "no enter");
     };
@@ -41,7 +47,12 @@ fn enter_is_read_field_by_field_and_written(rt: HostRuntime) {
 fn replace_is_read_field_by_field_and_written(rt: HostRuntime) {
     let mut command = any_command();
     assert!(rt; read(&REPLACE, &mut command).is_ok());
-    command_is_written(&rt, &command, &REPLACE, &"replace");
+    is_written(
+        &rt,
+        |out| write(&command, out).map_err(|refused| refused.number()),
+        &REPLACE,
+        &"replace",
+    );
     let Command::Replace(order) = command else {
         panic!(rt; "no replace");
     };
@@ -59,7 +70,12 @@ fn replace_is_read_field_by_field_and_written(rt: HostRuntime) {
 fn cancel_is_read_and_written(rt: HostRuntime) {
     let mut command = any_command();
     assert!(rt; read(&CANCEL, &mut command).is_ok());
-    command_is_written(&rt, &command, &CANCEL, &"cancel");
+    is_written(
+        &rt,
+        |out| write(&command, out).map_err(|refused| refused.number()),
+        &CANCEL,
+        &"cancel",
+    );
     let Command::Cancel(order) = command else {
         panic!(rt; "no cancel");
     };
