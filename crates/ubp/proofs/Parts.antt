@@ -105,14 +105,6 @@ module _ (i : ℕ) (xs : List ℕ) (t : Bytes xs) (h : i + 4 ≤ length xs) wher
       let o : of_z w32 r ≡ big4 (drop i xs) = ap (of_z w32) z ∙ of_z-to_z w32 (big4 (drop i xs)) big_lt in
       big-at ∙ ap bytes4 (sym o) ∙ ap (λ y. bytes4 (of_z w32 y)) (z ∙ ap (to_z w32) (sym o))
 
-  -- a signed number fits four bytes
-  pub signed_fits : {r : ℤ} → r ≡ to_z w32 (big4 (take (length xs - i) (drop i xs))) → let z = to_z w32 (of_z w32 r) in (of_z w32 z < 2 ^ 32) × (to_z w32 (of_z w32 z) ≡ z)
-  signed_fits {r} e =
-      let o : of_z w32 r ≡ big4 (drop i xs) = ap (of_z w32) (e ∙ ap (λ ys. to_z w32 (big4 ys)) (take_rest xs i)) ∙ of_z-to_z w32 (big4 (drop i xs)) big_lt in
-      let l : of_z w32 r < 2 ^ 32 = rw o big_lt in
-      let k : of_z w32 (to_z w32 (of_z w32 r)) ≡ of_z w32 r = of_z-to_z w32 (of_z w32 r) l in
-      (rw k l, ap (to_z w32) k)
-
 code_here : {V : Type 0} (code : V → ℕ) (w v : V) (n : ℕ) (o : Option V) (b : Bool) → eqb n (code w) ≡ b → cond b (Some w) o ≡ Some v → (o ≡ Some v → n ≡ code v) → n ≡ code v
 code_here code w v n o true h e rest = let k : w ≡ v = cc in eqb-true n (code w) h ∙ ap code k
 code_here code w v n o false h e rest = rest e

@@ -160,20 +160,6 @@ static CODED: [([u8; 12], Terms); 8] = [
     ),
 ];
 
-pub(crate) fn same_terms(a: &Terms, b: &Terms) -> bool {
-    let parties = a.side == b.side
-        && a.firm == b.firm
-        && a.capacity == b.capacity
-        && a.style == b.style
-        && a.grade == b.grade;
-    let what = a.stock == b.stock
-        && a.minimum == b.minimum
-        && a.leaves == b.leaves
-        && a.lots == b.lots;
-    let price = a.time == b.time && a.constraint == b.constraint && a.peg == b.peg;
-    parties && what && price
-}
-
 // Puts each byte at its place.
 fn put_each(message: &mut [u8], places: &[usize], bytes: &[u8]) {
     for (at, byte) in places.iter().zip(bytes) {
@@ -191,7 +177,7 @@ fn each_code_is_read(rt: HostRuntime) {
         let Command::Enter(order) = command else {
             panic!(rt; "{codes:?}: no enter");
         };
-        assert!(rt; same_terms(&order.terms, terms), "{codes:?}");
+        assert_eq!(rt; order.terms, *terms, "{codes:?}");
     }
 }
 

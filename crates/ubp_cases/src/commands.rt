@@ -1,6 +1,5 @@
 // Each command, read field by field and written into buffers of all lengths.
 use crate::buffers::is_written;
-use crate::codes::same_terms;
 use crate::frames::{CANCEL, ENTER, REPLACE, any_command};
 use orders::command::Command;
 use orders::fields::{
@@ -40,7 +39,7 @@ fn enter_is_read_field_by_field_and_written(rt: HostRuntime) {
     assert!(rt;
         order.token == *b"ENTER-TOKEN-01" && order.shares == 263_430 && order.price == 500_100
     );
-    assert!(rt; same_terms(&order.terms, &TERMS));
+    assert_eq!(rt; order.terms, TERMS);
 }
 
 #[test]

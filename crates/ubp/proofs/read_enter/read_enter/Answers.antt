@@ -11,7 +11,7 @@ use Rattle.ubp.specs.Commands.{enter_type, enter_fields, beside_peg}
 use Rattle.ubp.specs.Formats.{tests}
 use Rattle.ubp.specs.Frames.{Verdict, first_bad}
 use Rattle.ubp.proofs.Layouts.{nine_on}
-use Rattle.ubp.proofs.Parts.{part, ends, copy_at, fill_at, number_at, signed_at, signed_fits, coded_at, code_at}
+use Rattle.ubp.proofs.Parts.{part, ends, copy_at, fill_at, number_at, signed_at, coded_at, code_at}
 use Rattle.ubp.proofs.Pegs.{may_state_holds}
 use Rattle.ubp.proofs.Verdicts.{right_length, refused, past, stop, listed, number_listed, unlisted}
 use Rattle.ubp.proofs.read_enter.read_enter.Goals as goal
@@ -178,13 +178,6 @@ invariant_of-result-clause-pegged c =
     let f = c.args.fields.now in
     let e = c.in_ok-constraint.ensures in
     may_state_holds (get_or f 45 0) (get_or f 54 0) e.0 e.1 (sym c.in_ok-peg.ensures)
-
-pub invariant_of-result-clause-priced : goal.invariant_of-result-clause-priced
-invariant_of-result-clause-priced c =
-    let f = c.args.fields.now in
-    let n : length f ≡ 66 = c.if-fields-ne66.false in
-    let t = c.type_inv.fields in
-    signed_fits 25 f t (omega arith) c.signed.ensures
 
 pub returns : goal.returns
 unfolding enter_fields
