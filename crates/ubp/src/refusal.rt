@@ -3,7 +3,7 @@ ghost use Rattle.std.specs.Prelude.{◌≡◌};
 ghost use Rattle.ubp.specs.declared.refusal.Refusal.TheVariants.{Reading, Writing};
 ghost use Rattle.ubp.specs.Numbers.{read_number, write_number, refusal_number};
 
-#[derive(Clone, Copy)]
+#[derive(Clone, Copy, PartialEq, Eq, Debug)]
 pub enum ReadRefusal {
     // the frame is empty, or has not the length of its command
     WrongLength,
@@ -13,14 +13,14 @@ pub enum ReadRefusal {
     BadField(usize),
 }
 
-#[derive(Clone, Copy)]
+#[derive(Clone, Copy, PartialEq, Eq, Debug)]
 pub enum WriteRefusal {
     // the buffer is shorter than the message
     ShortBuffer,
 }
 
 // What refuses a frame that is to be read and written again.
-#[derive(Clone, Copy)]
+#[derive(Clone, Copy, PartialEq, Eq, Debug)]
 pub enum Refusal {
     Reading(ReadRefusal),
     Writing(WriteRefusal),
