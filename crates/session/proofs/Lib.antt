@@ -1,3 +1,4 @@
+pub mod Cutting
 pub mod Decoding
 pub mod Encoding
 pub mod Numerals

@@ -1,5 +1,5 @@
 -- How a line is cut into words.
-use Rattle.std.specs.Prelude.{ℕ, ◌+◌, Bool, true, false, not, ◌||◌, List, [], ◌∷◌, take, drop, length, take_while, ◌==◌}
+use Rattle.std.specs.Prelude.{ℕ, ◌+◌, Bool, true, false, cond, not, ◌||◌, List, [], ◌∷◌, take, drop, length, take_while, ◌==◌}
 
 -- what parts words: a space, a tab or a carriage return
 abbrev pub blank : ℕ → Bool
@@ -31,6 +31,16 @@ first_line text = take (line_length text) text
 -- what follows the first line and its line feed
 abbrev pub after_line : List ℕ → List ℕ
 after_line text = drop (line_length text + 1) text
+
+-- the lines, with a byte more at the front of the first
+abbrev pub with_byte : ℕ → List (List ℕ) → List (List ℕ)
+with_byte b [] = (b ∷ []) ∷ []
+with_byte b (line ∷ lines) = (b ∷ line) ∷ lines
+
+-- the lines of a text, each without its line feed; an empty text has none
+abbrev pub lines_of : List ℕ → List (List ℕ)
+lines_of [] = []
+lines_of (b ∷ bs) = cond (in_line b) (with_byte b (lines_of bs)) ([] ∷ lines_of bs)
 
 abbrev pub before_comment : List ℕ → List ℕ
 before_comment line = take (front_length content line) line
