@@ -1,4 +1,4 @@
-// What a record has to be for the list: it has a key, and two keys can be compared. That they are alike is what `==` says, whose laws make it an equivalence.
+// What a record has to be for the list: it has a key. Two records have the same one where `==` of the keys says so, and the laws of `Eq` make that an equivalence.
 ghost use Rattle.std.specs.Prelude.{◌≡◌};
 
 // A record that is found by its key.

@@ -4,6 +4,8 @@ ghost use Rattle.std.specs.Prelude.{◌≤◌, length, min};
 mod calls;
 
 // The records of the list, oldest first, are the first `len` cells, of which `most` may be used; past the end of the memory `most` means that end.
+// Lent cells with a length beside them, and no Vec: the list must run with no heap.
+// No impl Model (tried): behind a view a caller no longer knows, once the list is gone, what the memory that it lent holds.
 #[derive(Drop)]
 pub struct List<'a, T> {
     cells: &'a mut [T],

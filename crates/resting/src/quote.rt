@@ -26,7 +26,9 @@ impl Keyed for Quote {
 
     fn key_of(&self) -> StockKey
         ensures key { result ≡ stock_key self.now }
-        ensures same { (other : StockKey) → ⟦<StockKey as PartialEq>⟧.eq result other ≡ same_stock result other }
+        // What the derived `==` of two keys says.
+        ensures same { (other : StockKey)
+            → ⟦<StockKey as PartialEq>⟧.eq result other ≡ same_stock result other }
     {
         StockKey { stock: self.stock }
     }

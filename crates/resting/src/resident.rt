@@ -33,7 +33,9 @@ impl Keyed for Resident {
 
     fn key_of(&self) -> OrderKey
         ensures key { result ≡ order_key self.now }
-        ensures same { (other : OrderKey) → ⟦<OrderKey as PartialEq>⟧.eq result other ≡ same_order result other }
+        // What the derived `==` of two keys says.
+        ensures same { (other : OrderKey)
+            → ⟦<OrderKey as PartialEq>⟧.eq result other ≡ same_order result other }
     {
         OrderKey {
             client: self.client,
