@@ -1,20 +1,12 @@
--- What a loop that encodes has done, with what is left to do; and that decoding undoes it.
-use Rattle.std.proofs.Common.{◌≡◌, ℕ, suc, ◌+◌, ◌/◌, ◌%◌, ◌<◌, List, [], ◌∷◌, ◌++◌, length, get_or, drop, Some, Ok, sym, refl, ap, ◌∙◌, append_assoc, arith}
+-- What a loop that encodes has still to write; and that decoding undoes it.
+use Rattle.std.proofs.Common.{◌≡◌, ℕ, suc, ◌+◌, ◌/◌, ◌%◌, ◌<◌, List, [], ◌∷◌, length, get_or, drop, Some, Ok, refl, ap, ◌∙◌, arith}
 use Rattle.std.proofs.lemmas.List.{at_drop_more}
 use Rattle.std.proofs.lemmas.Bool.Decides.{nat_tests}
 use Rattle.session.specs.Hex.{before, byte_from, byte_of, digit_of, hex_bytes, hex_text, letter}
 
-text_more : (bytes : List ℕ) (i : ℕ) → i < length bytes → hex_text (drop i bytes) ≡ letter (get_or bytes i 0 / 16) ∷ letter (get_or bytes i 0 % 16) ∷ hex_text (drop (i + 1) bytes)
+-- one more byte
+pub text_more : (bytes : List ℕ) (i : ℕ) → i < length bytes → hex_text (drop i bytes) ≡ letter (get_or bytes i 0 / 16) ∷ letter (get_or bytes i 0 % 16) ∷ hex_text (drop (i + 1) bytes)
 text_more bytes i h = at_drop_more hex_text bytes i 0 h
-
-text_on : (bytes s : List ℕ) (i : ℕ) → i < length bytes → s ++ hex_text (drop i bytes) ≡ hex_text bytes
-    → ((s ++ letter (get_or bytes i 0 / 16) ∷ []) ++ letter (get_or bytes i 0 % 16) ∷ []) ++ hex_text (drop (i + 1) bytes) ≡ hex_text bytes
-text_on bytes s i h inv = simp append_assoc (sym (ap (λ t. s ++ t) (text_more bytes i h)) ∙ inv)
-
--- one more byte: s is the text before, t with the first digit, u with the second
-pub text_again : (bytes s t u p q : List ℕ) (i high low : ℕ) → i < length bytes → high ≡ letter (get_or bytes i 0 / 16) → low ≡ letter (get_or bytes i 0 % 16) → p ≡ high ∷ [] → q ≡ low ∷ [] → t ≡ s ++ p → u ≡ t ++ q
-    → s ++ hex_text (drop i bytes) ≡ hex_text bytes → u ++ hex_text (drop (i + 1) bytes) ≡ hex_text bytes
-text_again bytes s t u p q i high low h eh el ep eq et eu inv = rw (eu, et, eq, ep, el, eh) (text_on bytes s i h inv)
 
 digit_letter : (n : ℕ) → n < 16 → digit_of (letter n) ≡ Some n
 digit_letter n h = grind (arith, nat_tests)

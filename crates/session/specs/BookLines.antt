@@ -69,8 +69,3 @@ said (Read v) = read (vec_items v)
 said (Frame f) = frame f.clock f.places f.client f.category (vec_items f.bytes)
 said (Ban b) = ban b.first b.second
 said (Grid g) = grid g.depth g.category g.other g.meets
-
--- what a parser answered
-abbrev pub answer : Result BookItem LineFault → Result Said LineFault
-answer (Ok item) = Ok (said item)
-answer (Err e) = Err e

@@ -1,8 +1,7 @@
 // What one line of a book's session file says. The words of an item are taken from left to right, and the first that is
 // missing or wrong is reported; at the last, a word that follows it is reported before what is wrong in it.
-ghost use Rattle.std.specs.Prelude.{◌≡◌};
-ghost use Rattle.session.specs.BookLines.{frame_of, ban_of, grid_of, item_of, said, answer};
-ghost use Rattle.session.specs.Errors.{Reads};
+ghost use Rattle.session.specs.BookLines.{frame_of, ban_of, grid_of, item_of, said};
+ghost use Rattle.session.specs.Errors.{Finds, Reads};
 
 use crate::book_item::{BanLine, BookItem, FrameLine, GridLine};
 use crate::error::LineError;
@@ -31,7 +30,7 @@ fn frame_item(heap: Global, text: &[u8]) -> Result<BookItem, LineError>
 
 // The item `ban` with what follows its name.
 fn ban_item(text: &[u8]) -> Result<BookItem, LineFault>
-    ensures { answer result ≡ ban_of text.now }
+    ensures { Finds said result (ban_of text.now) }
 {
     let (first, rest) = first_number(text)?;
     let second = only_number(rest)?;
@@ -41,7 +40,7 @@ fn ban_item(text: &[u8]) -> Result<BookItem, LineFault>
 // The item `grid` with what follows its name.
 #[tactic(auto, unfolding(crate::specs::BookLines::grid_of))]
 fn grid_item(text: &[u8]) -> Result<BookItem, LineFault>
-    ensures { answer result ≡ grid_of text.now }
+    ensures { Finds said result (grid_of text.now) }
 {
     let (depth, rest) = first_number(text)?;
     let (category, rest) = first_number(rest)?;

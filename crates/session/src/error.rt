@@ -37,14 +37,6 @@ impl From<LineFault> for LineError {
     }
 }
 
-impl From<AllocError> for LineError {
-    ghost from_gives = { λ cause error. error ≡ NoMemory cause };
-
-    fn from(value: AllocError) -> LineError {
-        LineError::NoMemory(value)
-    }
-}
-
 impl<T: Drop> From<AllocFailed<T>> for LineError {
     ghost from_gives = { λ _ error. error ≡ NoMemory alloc_error };
 

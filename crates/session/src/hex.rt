@@ -30,6 +30,7 @@ fn byte_value(high: u8, low: u8) -> Option<u8>
 }
 
 // The bytes that the digits spell. An odd digit at the end is reported only where no digit before it is wrong.
+#[tactic(auto, using(crate::proofs::Decoding::after_pair))]
 pub fn decode(heap: Global, digits: &[u8]) -> Result<Vec<u8>, LineError>
     ensures { Reads vec_items result (hex_bytes digits.now) }
 {
@@ -61,6 +62,7 @@ fn digit_of(value: u8) -> char
 }
 
 // The bytes as lower-case digits, which decode to the same bytes.
+#[tactic(auto, using(crate::proofs::Encoding::text_more))]
 pub fn encode(heap: Global, bytes: &[u8]) -> Result<String, AllocError>
     ensures text { IfOk result (λ s. string_bytes s ≡ hex_text bytes.now) }
     ensures again { IfOk result (λ s. hex_bytes (string_bytes s) ≡ Ok bytes.now) }

@@ -16,7 +16,7 @@ pub(crate) trait Unsigned: Copy + TryFrom<u64, Error = TryFromIntError> {
     // the largest number that the type holds
     ghost most: { ℕ };
 
-    // A number of 64 bits converts where it is at most the largest, which has no more.
+    // The largest fits 64 bits, and a number of 64 bits converts where it is at most the largest.
     ghost converts: { (most < 2 ^ 64) × ((n : ℕ) (r : Result Self TryFromIntError) → n < 2 ^ 64 → Self.try_from_gives n r → MatchResult r (λ x. (value x ≡ n) × (n ≤ most)) (λ _. most < n)) };
 }
 
@@ -63,7 +63,7 @@ fn appended(number: u64, digit: u8) -> Option<u64>
 }
 
 // The number that a word writes in decimal digits, in 64 bits.
-#[tactic(auto, using(crate::proofs::Numerals::stops, crate::proofs::Numerals::ends))]
+#[tactic(auto, using(crate::proofs::Numerals::stops))]
 fn decimal(word: &[u8]) -> Result<u64, LineFault>
     ensures { result ≡ number_of u64.MAX word.now }
 {

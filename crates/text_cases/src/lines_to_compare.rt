@@ -33,9 +33,9 @@ fn a_frame_has_its_line(rt: HostRuntime) -> Result<(), Fail> {
             line: "refused 13 15",
         },
     ];
-    for case in &table {
-        let answer = ReadLine(case.frame).to_string(rt.alloc())?;
-        assert!(rt; answer.as_str() == case.line, "{}", case.line);
+    for Case { frame, line } in table {
+        let answer = ReadLine(frame).to_string(rt.alloc())?;
+        assert_eq!(rt; answer.as_str(), line);
     }
     Ok(())
 }

@@ -1,23 +1,10 @@
-use Rattle.std.proofs.Common.{◌++◌, string_bytes, sym, ap, ◌∙◌, append-nil, arith}
-use Rattle.std.proofs.lemmas.List.{at_drop_all}
+use Rattle.std.proofs.Common.{◌≡◌, string_bytes, ap, ◌∙◌, arith}
+use Rattle.std.proofs.lemmas.Grind.{common_steps}
 use Rattle.session.specs.Hex.{hex_text, hex_bytes}
-use Rattle.session.proofs.Encoding.{text_again, decodes}
+use Rattle.session.proofs.Encoding.{decodes}
 use Rattle.session.proofs.hex.encode.Goals as goal
 
-pub loop-byte-preserved : goal.loop-byte-preserved
-loop-byte-preserved c =
-    text_again c.args.bytes.now (string_bytes c.loop-byte.text) (string_bytes c.push.new.self) (string_bytes c.push-in-loop-byte.new.self) _ _ c.loop-byte.byte-index _ _ c.loop-byte-test.true
-    c.digit_of.ensures.value
-    c.digit_of-in-loop-byte.ensures.value
-    (c.push.ensures.ascii c.digit_of.ensures.ascii)
-    (c.push-in-loop-byte.ensures.ascii c.digit_of-in-loop-byte.ensures.ascii)
-    c.in_ok-push.ensures.bytes
-    c.in_ok-push-2.ensures.bytes
-    c.loop-byte.invariant
-
-pub returns : goal.returns
-returns c =
-    let whole = sym (append-nil (string_bytes c.loop-byte.text))
-    ∙ ap (λ t. string_bytes c.loop-byte.text ++ t) (sym (at_drop_all hex_text c.args.bytes.now c.loop-byte.byte-index c.loop-byte-test.false))
-    ∙ c.loop-byte.invariant in
-    record { text = whole; again = ap hex_bytes whole ∙ decodes c.args.bytes.now (λ i. omega (arith, c.type_inv.bytes i)) }
+pub returns-clause-again : goal.returns-clause-again
+returns-clause-again c =
+    let whole : string_bytes c.loop-byte.text ≡ hex_text c.args.bytes.now = grind (arith, common_steps) in
+    ap hex_bytes whole ∙ decodes c.args.bytes.now (λ i. omega (arith, c.type_inv.bytes i))
