@@ -25,7 +25,7 @@ fn a_wall_under_a_grid(rt: HostRuntime) {
     assert!(rt; !grid.allows(&inside, &outside) && !grid.allows(&outside, &inside));
     assert!(rt; grid.allows(&inside, &party(0, Category::Two)));
     assert!(rt; grid.allows(&outside, &party(101, Category::Two)));
-    assert!(rt; grid.set(2, 1, false).is_ok());
+    assert_eq!(rt; grid.set(2, 1, false), Ok(()));
     assert!(rt; !grid.allows(&inside, &party(0, Category::Two)));
 }
 
@@ -42,6 +42,6 @@ fn the_first_comer_is_at_the_front(rt: HostRuntime) {
         number: 3,
     };
     let line = [late, early];
-    assert!(rt; place_in_line(&FirstCome, &line, &early) == 0);
-    assert!(rt; place_in_line(&FirstCome, &line, &late) == 1);
+    assert_eq!(rt; place_in_line(&FirstCome, &line, &early), 0);
+    assert_eq!(rt; place_in_line(&FirstCome, &line, &late), 1);
 }

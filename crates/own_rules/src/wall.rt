@@ -12,10 +12,12 @@ pub struct Wall {
     pub first_outside: u32,
 }
 
-fn is_inside(first_outside: u32, party: &Party) -> bool
-    ensures { result ≡ inside first_outside party.now }
-{
-    party.client < first_outside
+impl Wall {
+    fn is_inside(&self, party: &Party) -> bool
+        ensures { result ≡ inside self.now.first_outside party.now }
+    {
+        party.client < self.first_outside
+    }
 }
 
 impl Policy for Wall {
@@ -24,6 +26,6 @@ impl Policy for Wall {
     ghost symmetric = { Prim.search rules };
 
     fn allows(&self, p: &Party, q: &Party) -> bool {
-        is_inside(self.first_outside, p) == is_inside(self.first_outside, q)
+        self.is_inside(p) == self.is_inside(q)
     }
 }

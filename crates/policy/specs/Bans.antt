@@ -1,5 +1,6 @@
 -- What bans hold, which pairs of parties they allow, and what a new ban changes.
-use Rattle.std.specs.Prelude.{◌≡◌, ℕ, Bool, false, cond, not, ◌&&◌, ◌||◌, List, [], ◌∷◌, ◌++◌, length, take, drop, replicate, Ok, Err, Result, ◌==◌, nat_lt}
+use Rattle.std.specs.Prelude.{◌≡◌, ℕ, Bool, cond, not, ◌&&◌, ◌||◌, List, [], ◌∷◌, ◌++◌, length, take, drop, replicate, Ok, Err, Result, ◌==◌, nat_lt}
+use Rattle.std.specs.List.{list_any}
 use Rattle.orders.specs.declared.party.Party.{Party}
 use Rattle.policy.specs.declared.refusal.PolicyRefusal.{PolicyRefusal}
 use Rattle.policy.specs.declared.refusal.PolicyRefusal.TheVariants.{BansFull}
@@ -24,8 +25,7 @@ pairs_up x m n = (x.one == m && x.other == n) || (x.one == n && x.other == m)
 
 -- the two clients are among the pairs
 abbrev pub banned : List ClientPair → ℕ → ℕ → Bool
-banned [] m n = false
-banned (x ∷ xs) m n = pairs_up x m n || banned xs m n
+banned xs m n = list_any (λ x. pairs_up x m n) xs
 
 -- every pair of parties whose clients are not banned is allowed
 abbrev pub bans_allow : Bans → Party → Party → Bool

@@ -1,20 +1,19 @@
 -- Which categories meet in a grid, and what a setting changes.
-use Rattle.std.specs.Prelude.{◌≡◌, ℕ, Bool, true, cond, ◌&&◌, Some, None, Ok, Err, Option, Result, ◌==◌}
+use Rattle.std.specs.Prelude.{◌≡◌, ℕ, Bool, true, false, cond, ◌&&◌, Some, None, Ok, Err, Option, Result, ◌==◌, List, []}
 use Rattle.orders.specs.Codes.{category_number}
 use Rattle.orders.specs.declared.party.Category.{Category}
 use Rattle.orders.specs.declared.party.Party.{Party}
-use Rattle.policy.specs.declared.per_category.PerCategory.{PerCategory}
 use Rattle.policy.specs.declared.refusal.PolicyRefusal.{PolicyRefusal}
 use Rattle.policy.specs.declared.refusal.PolicyRefusal.TheVariants.{NoCategory}
 use Rattle.policy.specs.PerCategory.{all_of, at, with}
 
 -- for each category, which categories it meets
 abbrev pub Meetings : Type 0
-Meetings = PerCategory (PerCategory Bool)
+Meetings = List (List Bool)
 
 -- category b is among those that a meets
 abbrev pub meets : Meetings → Category → Category → Bool
-meets rows a b = at (at rows a) b
+meets rows a b = at (at rows a []) b false
 
 -- what the policy below allows, if each party's category is among those that the other's meets
 abbrev pub grid_allows : (Party → Party → Bool) → Meetings → Party → Party → Bool
@@ -30,7 +29,7 @@ AllMeet rows = (a b : Category) → meets rows a b ≡ true
 
 -- b added to those that a meets, or dropped from them
 abbrev pub set_meets : Meetings → Category → Category → Bool → Meetings
-set_meets rows a b on = with rows a (with (at rows a) b on)
+set_meets rows a b on = with rows a (with (at rows a []) b on)
 
 -- a setting by numbers: nothing changes, and the refusal is answered, unless both are categories
 abbrev pub after_setting : Meetings → Option Category → Option Category → Bool → Meetings

@@ -1,24 +1,20 @@
--- One value for each source category.
+-- One value for each source category, in the order of the categories.
+use Rattle.std.specs.Prelude.{ℕ, ◌-◌, List, replicate, slice_index_or, slice_set}
+use Rattle.orders.specs.Codes.{category_number}
 use Rattle.orders.specs.declared.party.Category.{Category}
-use Rattle.orders.specs.declared.party.Category.TheVariants.{One, Two, Three, Four, Five}
-use Rattle.policy.specs.declared.per_category.PerCategory.{PerCategory}
+
+-- where a category's value stands
+abbrev pub place : Category → ℕ
+place c = category_number c - 1
 
 -- the same value for each
-abbrev pub all_of : {X : Type 0} → X → PerCategory X
-all_of x = record { one = x; two = x; three = x; four = x; five = x }
+abbrev pub all_of : {X : Type 0} → X → List X
+all_of x = replicate 5 x
 
--- the value of a category
-abbrev pub at : {X : Type 0} → PerCategory X → Category → X
-at xs One = xs.one
-at xs Two = xs.two
-at xs Three = xs.three
-at xs Four = xs.four
-at xs Five = xs.five
+-- the value of a category, or the last argument where there is none
+abbrev pub at : {X : Type 0} → List X → Category → X → X
+at xs c x = slice_index_or xs (place c) x
 
 -- another value for a category
-abbrev pub with : {X : Type 0} → PerCategory X → Category → X → PerCategory X
-with xs One x = record { one = x; two = xs.two; three = xs.three; four = xs.four; five = xs.five }
-with xs Two x = record { one = xs.one; two = x; three = xs.three; four = xs.four; five = xs.five }
-with xs Three x = record { one = xs.one; two = xs.two; three = x; four = xs.four; five = xs.five }
-with xs Four x = record { one = xs.one; two = xs.two; three = xs.three; four = x; five = xs.five }
-with xs Five x = record { one = xs.one; two = xs.two; three = xs.three; four = xs.four; five = x }
+abbrev pub with : {X : Type 0} → List X → Category → X → List X
+with xs c x = slice_set xs (place c) x

@@ -11,6 +11,7 @@ pub struct ClientPair {
 }
 
 // The first `count` pairs are held, oldest first, each once.
+// A count stands beside the memory: policies use no heap and bans are `Copy`, which the kit's vector of fixed capacity (`ArrayVec`) is not.
 #[derive(Clone, Copy)]
 pub struct Bans {
     pairs: [ClientPair; 64],

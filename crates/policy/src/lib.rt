@@ -8,7 +8,6 @@ use orders::party::Party;
 
 pub mod bans;
 pub mod grid;
-mod per_category;
 pub mod refusal;
 pub mod styles;
 

@@ -2,12 +2,12 @@
 ghost use Rattle.std.specs.Prelude.{◌≡◌};
 ghost use Rattle.policy.specs.Refusals.{refusal_number};
 
-#[derive(Clone, Copy, PartialEq, Eq)]
+#[derive(Clone, Copy, PartialEq, Eq, Debug)]
 pub enum PolicyRefusal {
     // a new ban where 64 are held
-    BansFull,
+    BansFull = 41,
     // a number that is none of the categories 1 to 5
-    NoCategory,
+    NoCategory = 42,
 }
 
 impl PolicyRefusal {
@@ -15,9 +15,6 @@ impl PolicyRefusal {
     pub fn number(self) -> u8
         ensures { result ≡ refusal_number self }
     {
-        match self {
-            PolicyRefusal::BansFull => 41,
-            PolicyRefusal::NoCategory => 42,
-        }
+        self as u8
     }
 }

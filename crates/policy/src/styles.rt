@@ -1,6 +1,6 @@
 // Styles: each order's cross style says whom it bars.
 ghost use Rattle.std.specs.Prelude.{◌≡◌, not};
-ghost use Rattle.policy.specs.Styles.{is_principal, is_five, same_client, bars, styles_allow};
+ghost use Rattle.policy.specs.Styles.{bars, styles_allow};
 ghost use Rattle.std.proofs.Math.Bool.{and_comm};
 
 use crate::Policy;
@@ -11,37 +11,13 @@ use orders::party::{Category, Party};
 #[derive(Clone, Copy)]
 pub struct Styles;
 
-fn is_principal(party: &Party) -> bool
-    ensures { result ≡ is_principal party.now }
-{
-    match party.capacity {
-        Capacity::Agency => false,
-        Capacity::Principal => true,
-    }
-}
-
-fn is_five(party: &Party) -> bool
-    ensures { result ≡ is_five party.now }
-{
-    match party.category {
-        Category::Five => true,
-        _ => false,
-    }
-}
-
-fn is_same_client(party: &Party, other: &Party) -> bool
-    ensures { result ≡ same_client party.now other.now }
-{
-    party.client == other.client
-}
-
 // Whether the party's style bars the other party.
 fn is_barred(party: &Party, other: &Party) -> bool
     ensures { result ≡ bars party.now other.now }
 {
-    let principal = is_principal(other);
-    let itself = is_same_client(party, other);
-    let five = is_five(other);
+    let principal = other.capacity == Capacity::Principal;
+    let itself = other.client == party.client;
+    let five = other.category == Category::Five;
     match party.style {
         CrossStyle::All => false,
         CrossStyle::AgencyOnly => principal,

@@ -7,18 +7,12 @@ use policy::styles::Styles;
 
 // Just the two categories are apart, if any.
 fn parts(grid: &Grid<Styles>, parted: Option<(Category, Category)>) -> bool {
-    for a in CATEGORIES {
-        for b in CATEGORIES {
-            let allowed = match parted {
-                Some((c, d)) => !(a == c && b == d || a == d && b == c),
-                None => true,
-            };
-            if both_ways(grid, &open_party(1, a), &open_party(2, b)) != Some(allowed) {
-                return false;
-            }
-        }
-    }
-    true
+    CATEGORIES.iter().all(|&a| {
+        CATEGORIES.iter().all(|&b| {
+            let allowed = parted != Some((a, b)) && parted != Some((b, a));
+            both_ways(grid, &open_party(1, a), &open_party(2, b)) == Some(allowed)
+        })
+    })
 }
 
 #[test]
@@ -27,14 +21,12 @@ fn each_setting_both_ways(rt: HostRuntime) {
     assert!(rt; parts(&grid, None), "at first all meet");
     for a in CATEGORIES {
         for b in CATEGORIES {
-            assert!(rt; grid.set(u8::from(a), u8::from(b), false) == Ok(()));
+            let (from, to) = (u8::from(a), u8::from(b));
+            assert_eq!(rt; grid.set(from, to, false), Ok(()));
             assert!(rt; parts(&grid, Some((a, b))));
-            assert!(rt;
-                grid.set(u8::from(a), u8::from(b), false) == Ok(()),
-                "dropped already"
-            );
+            assert_eq!(rt; grid.set(from, to, false), Ok(()), "dropped already");
             assert!(rt; parts(&grid, Some((a, b))));
-            assert!(rt; grid.set(u8::from(a), u8::from(b), true) == Ok(()));
+            assert_eq!(rt; grid.set(from, to, true), Ok(()));
             assert!(rt; parts(&grid, None));
         }
     }
@@ -43,30 +35,36 @@ fn each_setting_both_ways(rt: HostRuntime) {
 #[test]
 fn both_sides_have_to_meet(rt: HostRuntime) {
     let mut grid = Grid::over(Styles);
-    assert!(rt; grid.set(1, 5, false) == Ok(()));
-    assert!(rt; grid.set(5, 1, false) == Ok(()));
-    assert!(rt; grid.set(1, 5, true) == Ok(()));
+    assert_eq!(rt; grid.set(1, 5, false), Ok(()));
+    assert_eq!(rt; grid.set(5, 1, false), Ok(()));
+    assert_eq!(rt; grid.set(1, 5, true), Ok(()));
     assert!(rt;
         parts(&grid, Some((Category::One, Category::Five))),
         "5 does not meet 1"
     );
-    assert!(rt; grid.set(5, 1, true) == Ok(()));
+    assert_eq!(rt; grid.set(5, 1, true), Ok(()));
     assert!(rt; parts(&grid, None));
 }
 
 #[test]
 fn a_number_that_is_no_category_is_refused(rt: HostRuntime) {
     let mut grid = Grid::over(Styles);
-    assert!(rt; grid.set(2, 3, false) == Ok(()));
+    assert_eq!(rt; grid.set(2, 3, false), Ok(()));
     for wrong in [0, 6, 255] {
         for category in 0..=6 {
-            assert!(rt; grid.set(wrong, category, false) == Err(PolicyRefusal::NoCategory));
-            assert!(rt; grid.set(category, wrong, false) == Err(PolicyRefusal::NoCategory));
+            assert_eq!(rt;
+                grid.set(wrong, category, false),
+                Err(PolicyRefusal::NoCategory)
+            );
+            assert_eq!(rt;
+                grid.set(category, wrong, false),
+                Err(PolicyRefusal::NoCategory)
+            );
         }
     }
     assert!(rt;
         parts(&grid, Some((Category::Two, Category::Three))),
         "nothing changed"
     );
-    assert!(rt; PolicyRefusal::NoCategory.number() == 42);
+    assert_eq!(rt; PolicyRefusal::NoCategory.number(), 42);
 }

@@ -24,17 +24,5 @@ pub(crate) fn open_party(client: u32, category: Category) -> Party {
 // The answer, if it is the same both ways.
 pub(crate) fn both_ways<P: Policy>(policy: &P, p: &Party, q: &Party) -> Option<bool> {
     let answer = policy.allows(p, q);
-    if policy.allows(q, p) == answer {
-        Some(answer)
-    } else {
-        None
-    }
-}
-
-pub(crate) fn meet<P: Policy>(policy: &P, p: &Party, q: &Party) -> bool {
-    matches!(both_ways(policy, p, q), Some(true))
-}
-
-pub(crate) fn are_apart<P: Policy>(policy: &P, p: &Party, q: &Party) -> bool {
-    matches!(both_ways(policy, p, q), Some(false))
+    (policy.allows(q, p) == answer).then_some(answer)
 }

@@ -53,56 +53,44 @@ const CAPACITIES: [Capacity; 2] = [Capacity::Agency, Capacity::Principal];
 
 // Whether the row of a party's style bars the other party.
 fn bars(row: &Row, party: &Party, other: &Party) -> bool {
-    let mut column = 0;
-    if other.capacity == Capacity::Principal {
-        column += 4;
-    }
-    if other.client == party.client {
-        column += 2;
-    }
-    if other.category == Category::Five {
-        column += 1;
-    }
+    let principal = other.capacity == Capacity::Principal;
+    let itself = other.client == party.client;
+    let five = other.category == Category::Five;
+    let column = 4 * usize::from(principal) + 2 * usize::from(itself) + usize::from(five);
     row.barred[column] == b'x'
 }
 
 // A party of the row's style against one of each other style.
 fn answers_as_rows(row: &Row, party: &Party, other: &Party) -> bool {
-    for facing in &ROWS {
-        let p = Party {
-            style: row.style,
-            ..*party
-        };
+    let p = Party {
+        style: row.style,
+        ..*party
+    };
+    ROWS.iter().all(|facing| {
         let q = Party {
             style: facing.style,
             ..*other
         };
         let allowed = !bars(row, &p, &q) && !bars(facing, &q, &p);
-        if both_ways(&Styles, &p, &q) != Some(allowed) {
-            return false;
-        }
-    }
-    true
+        both_ways(&Styles, &p, &q) == Some(allowed)
+    })
 }
 
 // Client 7 against another party of the same client and of client 8, in each capacity and category.
 fn answers_for(row: &Row, party: &Party) -> bool {
-    for capacity in CAPACITIES {
-        for category in CATEGORIES {
-            for client in [7, 8] {
+    CAPACITIES.iter().all(|&capacity| {
+        CATEGORIES.iter().all(|&category| {
+            [7, 8].iter().all(|&client| {
                 let other = Party {
                     client,
                     category,
                     capacity,
                     style: CrossStyle::All,
                 };
-                if !answers_as_rows(row, party, &other) {
-                    return false;
-                }
-            }
-        }
-    }
-    true
+                answers_as_rows(row, party, &other)
+            })
+        })
+    })
 }
 
 #[test]

@@ -1,7 +1,7 @@
 -- Who has nobody ahead is ahead of all others.
-use Rattle.std.proofs.Common.{◌≡◌, ℕ, Bool, cond, not, List, [], ◌∷◌, ap, ◌∙◌, inl, inr, arith}
+use Rattle.std.proofs.Common.{◌≡◌, ℕ, Bool, cond, not, List, [], ◌∷◌, arith}
 use Rattle.std.proofs.lemmas.List.Sums.{sum_by-cons}
-use Rattle.std.proofs.lemmas.Bool.{cases_Bool}
+use Rattle.std.proofs.lemmas.Bool.{cond-true}
 use Rattle.ranking.specs.Rankings.{ahead_of, InFront}
 use Rattle.ranking.specs.declared.offer.Offer.{Offer}
 
@@ -10,9 +10,4 @@ module _ (ahead : Offer → Offer → Bool) (decided : (a b : Offer) → (a.numb
   in_front [] x none = tt
   in_front (y ∷ ys) x none =
       let count = sum_by-cons (λ other. cond (ahead other x) 1 0) y ys in
-      elim (cases_Bool (ahead y x)) [
-        | inl is ↦ let one : ◌≡◌ {A = ℕ} (cond (ahead y x) 1 0) 1 = simp is in absurd (omega arith)
-        | inr not-ahead ↦
-            let zero : ◌≡◌ {A = ℕ} (cond (ahead y x) 1 0) 0 = simp not-ahead in
-            (λ other. decided x y other ∙ ap not not-ahead, in_front ys x (omega arith))
-      ]
+      (λ other. grind (arith, cond-true {A = ℕ} (ahead y x) 1 0, decided x y other), in_front ys x (omega arith))

@@ -14,6 +14,7 @@ pub mod price_time;
 mod tests;
 
 // A ranking is a relation between offers. A broker's own ranking gives its relation, shows the three laws and answers the question; whatever is proved of rankings then holds of it.
+// Each ranking is an impl of its own and not an instance of one impl by key: that would ask of each a ghost key, a law that different numbers have different keys and a proof that its relation is the order of the keys, where now the search finds the three laws.
 pub trait Ranking {
     // the first offer is ahead of the second, by what the ranking holds now
     ghost ahead: { Self → Offer → Offer → Bool };

@@ -4,6 +4,7 @@ ghost use Rattle.std.proofs.Common.{rules};
 
 use crate::Ranking;
 use crate::offer::Offer;
+use std::cmp::Reverse;
 
 // The keener offer is ahead; of two that are equally keen, the one with the lower number.
 #[derive(Clone, Copy)]
@@ -19,7 +20,7 @@ impl Ranking for PriceTime {
     ghost transitive = { Prim.search rules };
 
     fn is_ahead(&self, first: &Offer, second: &Offer) -> bool {
-        first.keenness > second.keenness
-            || (first.keenness == second.keenness && first.number < second.number)
+        let key = |offer: &Offer| (Reverse(offer.keenness), offer.number);
+        key(first) < key(second)
     }
 }

@@ -15,17 +15,13 @@ const fn offer(keenness: i64, left: u32, number: u64) -> Offer {
 
 // Each offer is ahead of all that follow it, none is ahead of one before it or of itself, and each stands at its place.
 fn is_line<R: Ranking>(ranking: &R, offers: &[Offer]) -> bool {
-    for i in 0..offers.len() {
-        for j in 0..offers.len() {
-            if ranking.is_ahead(&offers[i], &offers[j]) != (i < j) {
-                return false;
-            }
-        }
-        if place_in_line(ranking, offers, &offers[i]) != i {
-            return false;
-        }
-    }
-    true
+    offers.iter().enumerate().all(|(i, first)| {
+        place_in_line(ranking, offers, first) == i
+            && offers
+                .iter()
+                .enumerate()
+                .all(|(j, second)| ranking.is_ahead(first, second) == (i < j))
+    })
 }
 
 #[test]
@@ -69,5 +65,5 @@ fn borders_of_the_numbers(rt: HostRuntime) {
     assert!(rt; is_line(&PriceSize, &line));
     assert!(rt; PriceTime.is_ahead(&line[2], &line[1]));
     assert!(rt; !PriceTime.is_ahead(&line[1], &line[2]));
-    assert!(rt; place_in_line(&PriceTime, &[], &line[0]) == 0);
+    assert_eq!(rt; place_in_line(&PriceTime, &[], &line[0]), 0);
 }

@@ -14,7 +14,8 @@ impl ClientPair {
     fn is_of(&self, one: u32, other: u32) -> bool
         ensures { result ≡ pairs_up self.now one other }
     {
-        (self.one == one && self.other == other) || (self.one == other && self.other == one)
+        let pair = (self.one, self.other);
+        pair == (one, other) || pair == (other, one)
     }
 }
 
@@ -34,12 +35,9 @@ impl Bans {
     pub fn is_banned(&self, one: u32, other: u32) -> bool
         ensures { result ≡ banned (held self.now) one other }
     {
-        for i in 0..self.count {
-            if self.pairs[i].is_of(one, other) {
-                return true;
-            }
-        }
-        false
+        self.pairs[..self.count]
+            .iter()
+            .any(|pair| pair.is_of(one, other))
     }
 
     // Holds one pair more, or refuses where there is no place and changes nothing.
@@ -49,7 +47,7 @@ impl Bans {
         ensures past { PastKept self.old self.new }
         ensures refused { is_ok result ≡ false → self.new ≡ self.old }
     {
-        if self.count >= 64 {
+        if self.count == self.pairs.len() {
             return Err(PolicyRefusal::BansFull);
         }
         self.pairs[self.count] = pair;
@@ -58,6 +56,7 @@ impl Bans {
     }
 
     // Bans two clients from meeting. A pair that is held stays held once; a new one where 64 are held is refused, and nothing changes.
+    #[tactic(auto, using(crate::proofs::Banned::added_bans))]
     pub fn ban(&mut self, one: u32, other: u32) -> Result<(), PolicyRefusal>
         ensures pairs { held self.new ≡ after_ban (held self.old) one other }
         ensures answer { result ≡ ban_answer (held self.old) one other }
