@@ -3,5 +3,4 @@ mod Own
 mod OwnCommands
 mod Parts
 mod Pegs
-mod Restoring
 mod Verdicts

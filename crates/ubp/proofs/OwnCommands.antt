@@ -1,5 +1,5 @@
 -- Each command's frame is read, and tells the command.
-use Rattle.std.proofs.Common.{◌≡◌, ℕ, ◌/◌, ◌^◌, ◌<◌, List, [], ◌∷◌, length, get_or, drop, ℤ, is_some, Some, Ok, Err, Option, sym, refl, ap, ◌∙◌, arith, w32, to_z, of_z, MatchResult}
+use Rattle.std.proofs.Common.{◌≡◌, ℕ, Bool, true, ◌/◌, ◌^◌, ◌<◌, List, [], ◌∷◌, get_or, drop, ℤ, is_some, Some, Err, Option, sym, refl, ap, ◌∙◌, arith, w32, to_z, of_z}
 use denote.Struct.Record.{values_one}
 use Rattle.std.specs.Prelude.{FitsSigned}
 use Rattle.std.proofs.Math.Facts.{Fits-of_z}
@@ -16,173 +16,52 @@ use Rattle.orders.specs.declared.command.Command.TheVariants.{Enter, Replace, Ca
 use Rattle.orders.specs.contracts.enter.EnterOrder as enter
 use Rattle.orders.specs.contracts.command.ReplaceOrder as replace
 use Rattle.orders.specs.contracts.command.CancelOrder as cancel
+use Rattle.ubp.specs.declared.refusal.ReadRefusal.{ReadRefusal}
 use Rattle.ubp.specs.Bytes.{big4, bytes4}
 use Rattle.ubp.specs.Commands.{enter_type, enter_fields, replace_type, replace_fields, cancel_type, cancel_fields}
 use Rattle.ubp.specs.Formats.{bytes_of}
-use Rattle.ubp.specs.Frames.{Verdict, verdict, encoded, command_size}
-use Rattle.ubp.specs.Theorems.{Taken, Told, ReadBack}
-use Rattle.ubp.proofs.Own.{Good, good_read, good_size, Each, each}
+use Rattle.ubp.specs.Frames.{verdict, encoded}
+use Rattle.ubp.specs.Theorems.{Taken, Told}
+use Rattle.ubp.proofs.Own.{Good, good_read, Each, each}
 use Rattle.ubp.proofs.Pegs.{test_is}
 
 time_number_is : (t : TimeInForce) → time_of (big4 (bytes4 (time_number t))) ≡ Some t
 time_number_is Immediate = refl
 time_number_is MarketHours = refl
 
+-- a field that is good whatever it holds, a text of its length, and a code in its list, each before good fields
+plain : {m : ℕ} {G : Type 0} → G → (m ≡ m) × (true ≡ true) × G
+plain g = (refl, refl, g)
+
+sized : {m n : ℕ} {G : Type 0} → m ≡ n → G → (m ≡ n) × (true ≡ true) × G
+sized e g = (e, refl, g)
+
+lawful : {m : ℕ} {b : Bool} {G : Type 0} → b ≡ true → G → (m ≡ m) × (b ≡ true) × G
+lawful e g = (refl, e, g)
+
 pub enter_good : (c : EnterOrder) → Good c enter_fields
 unfolding enter_fields
-enter_good c = (
-  c.sized.0,
-  refl,
-  (
-    refl,
-    ap is_some (side_is c.terms.side),
-    (
-      refl,
-      refl,
-      (
-        c.sized.1,
-        refl,
-        (
-          refl,
-          refl,
-          (
-            refl,
-            ap is_some (time_number_is c.terms.time),
-            (
-              c.sized.2,
-              refl,
-              (
-                refl,
-                refl,
-                (
-                  refl,
-                  ap is_some (capacity_is c.terms.capacity),
-                  (
-                    refl,
-                    refl,
-                    (
-                      refl,
-                      refl,
-                      (
-                        refl,
-                        refl,
-                        (
-                          refl,
-                          test_is c.terms.peg c.terms.constraint ∙ c.pegged,
-                          (
-                            refl,
-                            refl,
-                            (
-                              refl,
-                              ap is_some (leaves_is c.terms.leaves),
-                              (
-                                refl,
-                                refl,
-                                (
-                                  refl,
-                                  ap is_some (style_is c.terms.style),
-                                  (
-                                    refl,
-                                    ap is_some (peg_is c.terms.peg),
-                                    (
-                                      refl,
-                                      refl,
-                                      (
-                                        refl,
-                                        refl,
-                                        (
-                                          refl,
-                                          ap is_some (grade_is c.terms.grade),
-                                          (
-                                            refl,
-                                            refl,
-                                            (refl, ap is_some (lots_is c.terms.lots), tt),
-                                          ),
-                                        ),
-                                      ),
-                                    ),
-                                  ),
-                                ),
-                              ),
-                            ),
-                          ),
-                        ),
-                      ),
-                    ),
-                  ),
-                ),
-              ),
-            ),
-          ),
-        ),
-      ),
-    ),
-  ),
-)
+enter_good c =
+    let t = c.terms in
+    sized c.sized.0 (lawful (ap is_some (side_is t.side))
+    (plain (sized c.sized.1 (plain
+    (lawful (ap is_some (time_number_is t.time)) (sized c.sized.2
+    (plain (lawful (ap is_some (capacity_is t.capacity)) (plain (plain (plain
+    (lawful (test_is t.peg t.constraint ∙ c.pegged) (plain (lawful (ap is_some (leaves_is t.leaves)) (plain
+    (lawful (ap is_some (style_is t.style)) (lawful (ap is_some (peg_is t.peg)) (plain (plain
+    (lawful (ap is_some (grade_is t.grade)) (plain (lawful (ap is_some (lots_is t.lots)) tt))))))))))))))))))))))
 
 pub replace_good : (c : ReplaceOrder) → Good c replace_fields
 unfolding replace_fields
-replace_good c = (
-  c.sized.0,
-  refl,
-  (
-    c.sized.1,
-    refl,
-    (
-      refl,
-      refl,
-      (
-        refl,
-        refl,
-        (
-          refl,
-          ap is_some (time_number_is c.time),
-          (
-            refl,
-            refl,
-            (
-              refl,
-              refl,
-              (
-                refl,
-                refl,
-                (
-                  refl,
-                  ap is_some (style_is c.style),
-                  (
-                    refl,
-                    ap is_some (peg_is c.peg),
-                    (
-                      refl,
-                      refl,
-                      (
-                        refl,
-                        refl,
-                        (
-                          refl,
-                          refl,
-                          (
-                            refl,
-                            refl,
-                            (refl, ap is_some (lots_is c.lots), tt),
-                          ),
-                        ),
-                      ),
-                    ),
-                  ),
-                ),
-              ),
-            ),
-          ),
-        ),
-      ),
-    ),
-  ),
-)
+replace_good c =
+    sized c.sized.0 (sized c.sized.1 (plain (plain
+    (lawful (ap is_some (time_number_is c.time)) (plain (plain (plain
+    (lawful (ap is_some (style_is c.style)) (lawful (ap is_some (peg_is c.peg)) (plain (plain (plain (plain
+    (lawful (ap is_some (lots_is c.lots)) tt))))))))))))))
 
 pub cancel_good : (c : CancelOrder) → Good c cancel_fields
 unfolding cancel_fields
-cancel_good c = (c.sized, refl, (refl, refl, tt))
+cancel_good c = sized c.sized (plain tt)
 
 pub taken_own : (c : Command) → Taken c
 taken_own (Enter c) = good_read enter_type c enter_fields (enter_good c)
@@ -293,14 +172,6 @@ told_own (Cancel c) (Enter d) e = other (omega arith) e
 told_own (Cancel c) (Replace d) e = other (omega arith) e
 told_own (Cancel c) (Cancel d) e = ap Cancel (cancel_same d c (rest e))
 
--- what a reader with these answers fills in, where it reads a command's own frame
-pub read_back : (frame : List ℕ) (r : Verdict) (old d : Command) → r ≡ verdict frame → MatchResult r (λ _. frame ≡ encoded d) (λ _. d ≡ old) → ReadBack frame r d
-read_back frame (Ok x) old d a f c e = (refl, told_own c d (sym f ∙ e))
-read_back frame (Err x) old d a f c e = let z : ◌≡◌ {A = ℕ} 0 1 = cc (a ∙ ap verdict e ∙ taken_own c) in absurd (omega arith)
-
--- a frame is as long as its command has bytes
-pub frame_size : (c : Command) → length (encoded c) ≡ command_size c
-unfolding enter_fields replace_fields cancel_fields
-frame_size (Enter c) = let k = good_size c enter_fields (enter_good c) in omega (arith, k)
-frame_size (Replace c) = let k = good_size c replace_fields (replace_good c) in omega (arith, k)
-frame_size (Cancel c) = let k = good_size c cancel_fields (cancel_good c) in omega (arith, k)
+-- a frame that is refused is no command's
+pub no_frame : {X : Type 0} (frame : List ℕ) {x : ReadRefusal} → Err x ≡ verdict frame → (c : Command) → frame ≡ encoded c → X
+no_frame frame e c f = let z : ◌≡◌ {A = ℕ} 0 1 = cc (e ∙ ap verdict f ∙ taken_own c) in absurd (omega arith)

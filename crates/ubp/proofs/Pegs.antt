@@ -1,5 +1,5 @@
 -- The constraint beside a peg.
-use Rattle.std.proofs.Common.{◌≡◌, ℕ, Bool, true, false, cond, eqb, is_some, Some, sym, refl, ap, ◌∙◌, eqb-true}
+use Rattle.std.proofs.Common.{◌≡◌, ℕ, true, Some, sym, refl, ap, ◌∙◌}
 use Rattle.orders.specs.Codes.{peg_byte, peg_of, pegs, constraint_byte, constraint_of, constraints}
 use Rattle.orders.specs.Pegs.{may_state}
 use Rattle.ubp.specs.Commands.{beside_peg}
@@ -8,13 +8,6 @@ use Rattle.orders.specs.declared.fields.Peg.TheVariants.{Midpoint, Unpegged, Pri
 use Rattle.orders.specs.declared.fields.Constraint.{Constraint}
 use Rattle.orders.specs.declared.fields.Constraint.TheVariants.{Unstated, FillToLimit, FillToMidpoint}
 use Rattle.ubp.proofs.Parts.{coded_code}
-
-constraint_by : (b : ℕ) (t : Bool) → cond t (is_some (constraint_of b)) (eqb b 32) ≡ true → is_some (constraint_of b) ≡ true
-constraint_by b true e = e
-constraint_by b false e = ap (λ x. is_some (constraint_of x)) (eqb-true b 32 e)
-
-pub constraint_some : (b p : ℕ) → beside_peg b p ≡ true → is_some (constraint_of b) ≡ true
-constraint_some b p e = constraint_by b (eqb p 77) e
 
 pub test_is : (g : Peg) (k : Constraint) → beside_peg (constraint_byte k) (peg_byte g) ≡ may_state g k
 test_is Midpoint Unstated = refl

@@ -1,5 +1,6 @@
 -- Numbers as bytes, the most significant first, and filled parts.
-use Rattle.std.specs.Prelude.{ℕ, ◌+◌, ◌*◌, ◌/◌, ◌%◌, Bool, true, false, cond, List, [], ◌∷◌, ◌==◌, slice_index}
+use Rattle.std.specs.Prelude.{ℕ, ◌+◌, ◌*◌, ◌/◌, ◌%◌, Bool, List, [], ◌∷◌, ◌==◌, slice_index}
+use Rattle.std.specs.List.{list_all}
 
 -- the number in the first four bytes
 abbrev pub big4 : List ℕ → ℕ
@@ -17,5 +18,4 @@ bytes8 n =
 
 -- whether all bytes are b
 abbrev pub all_are : ℕ → List ℕ → Bool
-all_are b [] = true
-all_are b (x ∷ xs) = cond (x == b) (all_are b xs) false
+all_are b xs = list_all (λ x. x == b) xs

@@ -43,6 +43,10 @@ command_size (Enter c) = message_size enter_fields
 command_size (Replace c) = message_size replace_fields
 command_size (Cancel c) = message_size cancel_fields
 
+-- a reader of the frame f answers r: the command whose frame it is, or the refusal
+abbrev pub ReadsCommand : List ℕ → Result Command ReadRefusal → Type 0
+ReadsCommand f r = MatchResult r (λ c. (Ok tt ≡ verdict f) × (f ≡ encoded c)) (λ e. Err e ≡ verdict f)
+
 -- a reader that answers r finds the caller's command as old and leaves it as new: it is what the frame says, or as it was
 abbrev pub Fills : List ℕ → Verdict → Command → Command → Type 0
 Fills frame r old new = MatchResult r (λ _. frame ≡ encoded new) (λ _. new ≡ old)

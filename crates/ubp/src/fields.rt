@@ -1,56 +1,59 @@
 // Field readers: each takes a part of the frame that starts at its field.
-ghost use Rattle.std.specs.Prelude.{◌≡◌, ◌≤◌, length, take};
+ghost use Rattle.std.specs.Prelude.{◌≡◌, ◌≤◌, true, false, length, take, Ok, Err, MatchResult};
 ghost use Rattle.std.proofs.Common.{to_z};
 ghost use Rattle.std.specs.Int.{w32};
 ghost use Rattle.ubp.specs.Bytes.{big4, all_are};
-ghost use Rattle.ubp.specs.Frames.{first_bad};
+ghost use Rattle.orders.specs.declared.codes.Unlisted.{Unlisted};
+ghost use Rattle.ubp.specs.declared.refusal.ReadRefusal.TheVariants.{BadField};
 
 use crate::refusal::ReadRefusal;
+use orders::codes::Unlisted;
 
 pub(crate) fn bytes<const N: usize>(part: &[u8]) -> [u8; N]
     requires { N ≤ length part.now }
     ensures { result ≡ take N part.now }
 {
-    match <[u8; N]>::try_from(&part[0..N]) {
-        Ok(a) => a,
-        Err(_) => unreachable(),
-    }
+    *part.first_chunk().unwrap()
 }
 
 pub(crate) fn number(part: &[u8]) -> u32
     requires { 4 ≤ length part.now }
     ensures { result ≡ big4 part.now }
 {
-    u32::from_be_bytes([part[0], part[1], part[2], part[3]])
+    u32::from_be_bytes(bytes(part))
 }
 
 pub(crate) fn signed(part: &[u8]) -> i32
     requires { 4 ≤ length part.now }
     ensures { result ≡ to_z w32 (big4 part.now) }
 {
-    i32::from_be_bytes([part[0], part[1], part[2], part[3]])
+    i32::from_be_bytes(bytes(part))
 }
 
 // Whether all bytes of the part are b.
-pub(crate) fn filled(part: &[u8], b: u8) -> bool
+fn filled(part: &[u8], b: u8) -> bool
     ensures { result ≡ all_are b part.now }
 {
-    for x in part {
-        if *x != b {
-            return false;
-        }
-    }
-    true
+    part.iter().all(|x| *x == b)
 }
 
-// The first test that failed, by its field's offset.
-pub(crate) fn first_bad(tests: &[(usize, bool)]) -> Result<(), ReadRefusal>
-    ensures { result ≡ first_bad tests.now }
+// A reserved part is b alone; another is refused at its offset in the frame.
+pub(crate) fn reserved(offset: usize, part: &[u8], b: u8) -> Result<(), ReadRefusal>
+    ensures { MatchResult result (λ _. all_are b part.now ≡ true) (λ e. (e ≡ BadField offset) × (all_are b part.now ≡ false)) }
 {
-    for (offset, passed) in tests {
-        if !*passed {
-            return Err(ReadRefusal::BadField(*offset));
-        }
+    if filled(part, b) {
+        Ok(())
+    } else {
+        Err(ReadRefusal::BadField(offset))
     }
-    Ok(())
+}
+
+// The value that a code stands for; a code that stands for none is refused at its offset in the frame.
+pub(crate) fn coded<C, T: TryFrom<C, Error = Unlisted>>(
+    offset: usize,
+    code: C,
+) -> Result<T, ReadRefusal>
+    ensures { MatchResult result (λ v. T.try_from_gives code (Ok v)) (λ e. (e ≡ BadField offset) × (d : Unlisted) × T.try_from_gives code (Err d)) }
+{
+    T::try_from(code).map_err(|_| ReadRefusal::BadField(offset))
 }

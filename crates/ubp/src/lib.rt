@@ -2,6 +2,7 @@
 #![tactic(auto)]
 
 mod fields;
+mod message;
 mod put;
 pub mod read;
 mod read_cancel;

@@ -1,87 +1,69 @@
 // The reader of the command that enters an order.
-ghost use Rattle.std.specs.Prelude.{◌≡◌, length, Ok, OnOk};
+ghost use Rattle.std.specs.Prelude.{◌≡◌, true, false, Some, MatchResult};
+ghost use Rattle.orders.specs.Codes.{constraint_of};
 ghost use Rattle.ubp.specs.Commands.{beside_peg, enter_type, enter_fields};
-ghost use Rattle.ubp.specs.Formats.{bytes_of};
-ghost use Rattle.ubp.specs.Frames.{Reads, fields_verdict};
+ghost use Rattle.ubp.specs.Frames.{Reads};
+ghost use Rattle.ubp.specs.declared.refusal.ReadRefusal.TheVariants.{BadField};
 
-use crate::fields::{bytes, filled, first_bad, number, signed};
+use crate::fields::{bytes, coded, number, reserved, signed};
 use crate::refusal::ReadRefusal;
 use orders::enter::EnterOrder;
-use orders::fields::{
-    Capacity, Constraint, CrossStyle, InviteGrade, LeavesMode, Lots, Peg, Side, Terms, TimeInForce,
-};
+use orders::fields::{Constraint, Terms};
 
-// Whether a constraint byte may stand beside a peg byte.
-fn may_stand(constraint: u8, peg: u8) -> bool
-    ensures { result ≡ beside_peg constraint peg }
+// The constraint that a byte states beside a peg's byte: beside a midpoint peg any, beside another byte none.
+fn constraint_beside(peg: u8, offset: usize, byte: u8) -> Result<Constraint, ReadRefusal>
+    ensures { MatchResult result (λ v. (beside_peg byte peg ≡ true) × (constraint_of byte ≡ Some v)) (λ e. (e ≡ BadField offset) × (beside_peg byte peg ≡ false)) }
 {
-    if peg == b'M' {
-        Constraint::try_from(constraint).is_ok()
+    let constraint = coded(offset, byte)?;
+    if peg == b'M' || constraint == Constraint::Unstated {
+        Ok(constraint)
     } else {
-        constraint == b' '
+        Err(ReadRefusal::BadField(offset))
     }
 }
 
-// Tests the length and each field that has a list. An offset counts from the frame's first byte, a place in `fields` from the second.
-fn check_enter(fields: &[u8]) -> Result<(), ReadRefusal>
-    ensures answer { result ≡ fields_verdict enter_type enter_fields fields.now }
-    ensures long { OnOk result (length fields.now ≡ 66) }
+// Reads all that follows the first byte, up to the first field that holds what it may not. An offset counts from the frame's first byte, a place in `fields` from the second.
+#[tactic(auto, unfolding(crate::specs::Commands::enter_fields))]
+pub(crate) fn read_enter(fields: &[u8]) -> Result<EnterOrder, ReadRefusal>
+    ensures { Reads enter_type enter_fields fields.now result }
 {
     if fields.len() != 66 {
         return Err(ReadRefusal::WrongLength);
     }
-    first_bad(&[
-        (15, Side::try_from(fields[14]).is_ok()),
-        (30, TimeInForce::try_from(number(&fields[29..])).is_ok()),
-        (38, filled(&fields[37..38], b' ')),
-        (39, Capacity::try_from(fields[38]).is_ok()),
-        (40, filled(&fields[39..40], b' ')),
-        (45, filled(&fields[44..45], b' ')),
-        (46, may_stand(fields[45], fields[54])),
-        (47, filled(&fields[46..47], b' ')),
-        (48, LeavesMode::try_from(fields[47]).is_ok()),
-        (49, filled(&fields[48..53], b' ')),
-        (54, CrossStyle::try_from(fields[53]).is_ok()),
-        (55, Peg::try_from(fields[54]).is_ok()),
-        (56, filled(&fields[55..56], b' ')),
-        (57, filled(&fields[56..60], 0)),
-        (61, InviteGrade::try_from(fields[60]).is_ok()),
-        (62, filled(&fields[61..65], 0)),
-        (66, Lots::try_from(fields[65]).is_ok()),
-    ])
-}
-
-// Takes an enter from fields that passed their tests.
-fn take_enter(fields: &[u8]) -> EnterOrder
-    requires long { length fields.now ≡ 66 }
-    requires passed { fields_verdict enter_type enter_fields fields.now ≡ Ok tt }
-    ensures { fields.now ≡ bytes_of enter_fields result }
-{
-    EnterOrder {
+    let side = coded(15, fields[14])?;
+    let time = coded(30, number(&fields[29..]))?;
+    reserved(38, &fields[37..38], b' ')?;
+    let capacity = coded(39, fields[38])?;
+    reserved(40, &fields[39..40], b' ')?;
+    reserved(45, &fields[44..45], b' ')?;
+    let constraint = constraint_beside(fields[54], 46, fields[45])?;
+    reserved(47, &fields[46..47], b' ')?;
+    let leaves = coded(48, fields[47])?;
+    reserved(49, &fields[48..53], b' ')?;
+    let style = coded(54, fields[53])?;
+    let peg = coded(55, fields[54])?;
+    reserved(56, &fields[55..56], b' ')?;
+    reserved(57, &fields[56..60], 0)?;
+    let grade = coded(61, fields[60])?;
+    reserved(62, &fields[61..65], 0)?;
+    let lots = coded(66, fields[65])?;
+    Ok(EnterOrder {
         token: bytes(&fields[0..]),
         shares: number(&fields[15..]),
         price: signed(&fields[25..]),
         terms: Terms {
-            side: Side::try_from(fields[14]).unwrap(),
+            side,
             stock: bytes(&fields[19..]),
-            time: TimeInForce::try_from(number(&fields[29..])).unwrap(),
+            time,
             firm: bytes(&fields[33..]),
-            capacity: Capacity::try_from(fields[38]).unwrap(),
+            capacity,
             minimum: number(&fields[40..]),
-            constraint: Constraint::try_from(fields[45]).unwrap(),
-            leaves: LeavesMode::try_from(fields[47]).unwrap(),
-            style: CrossStyle::try_from(fields[53]).unwrap(),
-            peg: Peg::try_from(fields[54]).unwrap(),
-            grade: InviteGrade::try_from(fields[60]).unwrap(),
-            lots: Lots::try_from(fields[65]).unwrap(),
+            constraint,
+            leaves,
+            style,
+            peg,
+            grade,
+            lots,
         },
-    }
-}
-
-// Reads all that follows the first byte.
-pub(crate) fn read_enter(fields: &[u8]) -> Result<EnterOrder, ReadRefusal>
-    ensures { Reads enter_type enter_fields fields.now result }
-{
-    check_enter(fields)?;
-    Ok(take_enter(fields))
+    })
 }

@@ -1,8 +1,9 @@
 // What a reader or a writer refuses.
 ghost use Rattle.std.specs.Prelude.{◌≡◌};
+ghost use Rattle.ubp.specs.declared.refusal.Refusal.TheVariants.{Reading, Writing};
 ghost use Rattle.ubp.specs.Numbers.{read_number, write_number, refusal_number};
 
-#[derive(Clone, Copy)]
+#[derive(Clone, Copy, PartialEq, Eq, Debug)]
 pub enum ReadRefusal {
     // the frame is empty, or has not the length of its command
     WrongLength,
@@ -12,17 +13,33 @@ pub enum ReadRefusal {
     BadField(usize),
 }
 
-#[derive(Clone, Copy)]
+#[derive(Clone, Copy, PartialEq, Eq, Debug)]
 pub enum WriteRefusal {
     // the buffer is shorter than the message
     ShortBuffer,
 }
 
 // What refuses a frame that is to be read and written again.
-#[derive(Clone, Copy)]
+#[derive(Clone, Copy, PartialEq, Eq, Debug)]
 pub enum Refusal {
     Reading(ReadRefusal),
     Writing(WriteRefusal),
+}
+
+impl From<ReadRefusal> for Refusal {
+    ghost from_gives = { λ refused result. result ≡ Reading refused };
+
+    fn from(refused: ReadRefusal) -> Refusal {
+        Refusal::Reading(refused)
+    }
+}
+
+impl From<WriteRefusal> for Refusal {
+    ghost from_gives = { λ refused result. result ≡ Writing refused };
+
+    fn from(refused: WriteRefusal) -> Refusal {
+        Refusal::Writing(refused)
+    }
 }
 
 impl ReadRefusal {

@@ -11,11 +11,6 @@ pub fn restore(frame: &[u8], out: &mut [u8]) -> Result<usize, Refusal>
     ensures { Restores frame.now out.old out.new result }
 {
     let mut command = Command::Cancel(CancelOrder { token: [b' '; 14] });
-    match read(frame, &mut command) {
-        Err(refusal) => Err(Refusal::Reading(refusal)),
-        Ok(()) => match write(&command, out) {
-            Err(refusal) => Err(Refusal::Writing(refusal)),
-            Ok(length) => Ok(length),
-        },
-    }
+    read(frame, &mut command)?;
+    Ok(write(&command, out)?)
 }

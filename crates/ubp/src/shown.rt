@@ -19,10 +19,10 @@ pub(crate) struct ShownTerms {
     pub lots: u8,
 }
 
-impl ShownTerms {
-    pub(crate) fn of(terms: &Option<Terms>) -> ShownTerms
-        ensures { result ≡ shown terms.now }
-    {
+impl From<&Option<Terms>> for ShownTerms {
+    ghost from_gives = { λ terms result. result ≡ shown terms.now };
+
+    fn from(terms: &Option<Terms>) -> ShownTerms {
         match terms {
             None => ShownTerms {
                 side: b' ',

@@ -6,6 +6,7 @@ ghost use Rattle.ubp.specs.Theorems.{Taken, Told};
 ghost use Rattle.ubp.specs.Writing.{Begun, Writes};
 ghost use Rattle.std.specs.Prelude.{◌≤◌, length, take};
 
+use crate::message::{Message, write_message};
 use crate::put::put;
 use crate::refusal::WriteRefusal;
 use orders::command::{CancelOrder, Command, ReplaceOrder};
@@ -47,19 +48,24 @@ fn put_enter_terms(order: &EnterOrder, out: &mut [u8])
     put(out, 55, &[u8::from(terms.peg)]);
 }
 
-fn write_enter(order: &EnterOrder, out: &mut [u8]) -> Result<usize, WriteRefusal>
-    ensures { Writes (message_size enter_fields) (message enter_type enter_fields order.now) out.old out.new result }
-{
-    if out.len() < 67 {
-        return Err(WriteRefusal::ShortBuffer);
+#[tactic(auto, unfolding(crate::specs::Commands::enter_fields))]
+impl Message for EnterOrder {
+    ghost size = { λ _. message_size enter_fields };
+
+    ghost bytes = { message enter_type enter_fields };
+
+    fn size(&self) -> usize {
+        67
     }
-    put_enter_terms(order, out);
-    put(out, 56, b" ");
-    put(out, 57, &[0; 4]);
-    put(out, 61, &[u8::from(order.terms.grade)]);
-    put(out, 62, &[0; 4]);
-    put(out, 66, &[u8::from(order.terms.lots)]);
-    Ok(67)
+
+    fn put(&self, out: &mut [u8]) {
+        put_enter_terms(self, out);
+        put(out, 56, b" ");
+        put(out, 57, &[0; 4]);
+        put(out, 61, &[u8::from(self.terms.grade)]);
+        put(out, 62, &[0; 4]);
+        put(out, 66, &[u8::from(self.terms.lots)]);
+    }
 }
 
 // Which order becomes what: the fields from the tokens to the time in force.
@@ -75,45 +81,67 @@ fn put_replace_trade(order: &ReplaceOrder, out: &mut [u8])
     put(out, 37, &u32::from(order.time).to_be_bytes());
 }
 
-fn write_replace(order: &ReplaceOrder, out: &mut [u8]) -> Result<usize, WriteRefusal>
-    ensures { Writes (message_size replace_fields) (message replace_type replace_fields order.now) out.old out.new result }
-{
-    if out.len() < 60 {
-        return Err(WriteRefusal::ShortBuffer);
+#[tactic(auto, unfolding(crate::specs::Commands::replace_fields))]
+impl Message for ReplaceOrder {
+    ghost size = { λ _. message_size replace_fields };
+
+    ghost bytes = { message replace_type replace_fields };
+
+    fn size(&self) -> usize {
+        60
     }
-    put_replace_trade(order, out);
-    put(out, 41, b" ");
-    put(out, 42, b" ");
-    put(out, 43, &order.minimum.to_be_bytes());
-    put(out, 47, &[u8::from(order.style)]);
-    put(out, 48, &[u8::from(order.peg)]);
-    put(out, 49, b" ");
-    put(out, 50, &[0; 4]);
-    put(out, 54, b" ");
-    put(out, 55, &[0; 4]);
-    put(out, 59, &[u8::from(order.lots)]);
-    Ok(60)
+
+    fn put(&self, out: &mut [u8]) {
+        put_replace_trade(self, out);
+        put(out, 41, b" ");
+        put(out, 42, b" ");
+        put(out, 43, &self.minimum.to_be_bytes());
+        put(out, 47, &[u8::from(self.style)]);
+        put(out, 48, &[u8::from(self.peg)]);
+        put(out, 49, b" ");
+        put(out, 50, &[0; 4]);
+        put(out, 54, b" ");
+        put(out, 55, &[0; 4]);
+        put(out, 59, &[u8::from(self.lots)]);
+    }
 }
 
-fn write_cancel(order: &CancelOrder, out: &mut [u8]) -> Result<usize, WriteRefusal>
-    ensures { Writes (message_size cancel_fields) (message cancel_type cancel_fields order.now) out.old out.new result }
-{
-    if out.len() < 19 {
-        return Err(WriteRefusal::ShortBuffer);
+#[tactic(auto, unfolding(crate::specs::Commands::cancel_fields))]
+impl Message for CancelOrder {
+    ghost size = { λ _. message_size cancel_fields };
+
+    ghost bytes = { message cancel_type cancel_fields };
+
+    fn size(&self) -> usize {
+        19
     }
-    put(out, 0, b"X");
-    put(out, 1, &order.token);
-    put(out, 15, &[0; 4]);
-    Ok(19)
+
+    fn put(&self, out: &mut [u8]) {
+        put(out, 0, b"X");
+        put(out, 1, &self.token);
+        put(out, 15, &[0; 4]);
+    }
 }
 
-fn write_any(command: &Command, out: &mut [u8]) -> Result<usize, WriteRefusal>
-    ensures { Writes (command_size command.now) (encoded command.now) out.old out.new result }
-{
-    match command {
-        Command::Enter(order) => write_enter(order, out),
-        Command::Replace(order) => write_replace(order, out),
-        Command::Cancel(order) => write_cancel(order, out),
+impl Message for Command {
+    ghost size = { command_size };
+
+    ghost bytes = { encoded };
+
+    fn size(&self) -> usize {
+        match self {
+            Command::Enter(order) => order.size(),
+            Command::Replace(order) => order.size(),
+            Command::Cancel(order) => order.size(),
+        }
+    }
+
+    fn put(&self, out: &mut [u8]) {
+        match self {
+            Command::Enter(order) => order.put(out),
+            Command::Replace(order) => order.put(out),
+            Command::Cancel(order) => order.put(out),
+        }
     }
 }
 
@@ -124,5 +152,5 @@ pub fn write(command: &Command, out: &mut [u8]) -> Result<usize, WriteRefusal>
     ensures taken { Taken command.now }
     ensures told { Told command.now }
 {
-    write_any(command, out)
+    write_message(command, out)
 }

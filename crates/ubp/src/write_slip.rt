@@ -5,6 +5,7 @@ ghost use Rattle.ubp.specs.Answers.{head_fields, order_fields, accepted_fields, 
 ghost use Rattle.ubp.specs.Formats.{message, message_size};
 ghost use Rattle.ubp.specs.Writing.{Begun, Writes};
 
+use crate::message::{Message, write_message};
 use crate::put::put;
 use crate::refusal::WriteRefusal;
 use crate::shown::ShownTerms;
@@ -42,13 +43,12 @@ fn put_order(slip: &Slip, terms: &ShownTerms, out: &mut [u8])
     put(out, 62, &[u8::from(slip.letter)]);
 }
 
-fn write_accepted(slip: &Slip, out: &mut [u8]) -> Result<usize, WriteRefusal>
-    ensures { Writes (message_size accepted_fields) (message (kind_byte slip.now.kind) accepted_fields slip.now) out.old out.new result }
+#[tactic(auto, unfolding(crate::specs::Answers::head_fields, crate::specs::Answers::order_fields, crate::specs::Answers::accepted_fields))]
+fn put_accepted(slip: &Slip, out: &mut [u8])
+    requires { message_size accepted_fields ≤ length out.old }
+    ensures { Begun (message_size accepted_fields) (message (kind_byte slip.now.kind) accepted_fields slip.now) out.old out.new }
 {
-    if out.len() < 84 {
-        return Err(WriteRefusal::ShortBuffer);
-    }
-    let terms = ShownTerms::of(&slip.terms);
+    let terms = ShownTerms::from(&slip.terms);
     put_order(slip, &terms, out);
     put(out, 63, b"        ");
     put(out, 71, &[terms.style]);
@@ -58,16 +58,14 @@ fn write_accepted(slip: &Slip, out: &mut [u8]) -> Result<usize, WriteRefusal>
     put(out, 78, &[terms.grade]);
     put(out, 79, &[0; 4]);
     put(out, 83, &[terms.lots]);
-    Ok(84)
 }
 
-fn write_replaced(slip: &Slip, out: &mut [u8]) -> Result<usize, WriteRefusal>
-    ensures { Writes (message_size replaced_fields) (message (kind_byte slip.now.kind) replaced_fields slip.now) out.old out.new result }
+#[tactic(auto, unfolding(crate::specs::Answers::head_fields, crate::specs::Answers::order_fields, crate::specs::Answers::replaced_fields))]
+fn put_replaced(slip: &Slip, out: &mut [u8])
+    requires { message_size replaced_fields ≤ length out.old }
+    ensures { Begun (message_size replaced_fields) (message (kind_byte slip.now.kind) replaced_fields slip.now) out.old out.new }
 {
-    if out.len() < 98 {
-        return Err(WriteRefusal::ShortBuffer);
-    }
-    let terms = ShownTerms::of(&slip.terms);
+    let terms = ShownTerms::from(&slip.terms);
     put_order(slip, &terms, out);
     put(out, 63, &slip.old.token);
     put(out, 77, b"        ");
@@ -78,66 +76,72 @@ fn write_replaced(slip: &Slip, out: &mut [u8]) -> Result<usize, WriteRefusal>
     put(out, 92, b" ");
     put(out, 93, &[0; 4]);
     put(out, 97, &[terms.lots]);
-    Ok(98)
 }
 
-fn write_executed(slip: &Slip, out: &mut [u8]) -> Result<usize, WriteRefusal>
-    ensures { Writes (message_size executed_fields) (message (kind_byte slip.now.kind) executed_fields slip.now) out.old out.new result }
+#[tactic(auto, unfolding(crate::specs::Answers::head_fields, crate::specs::Answers::executed_fields))]
+fn put_executed(slip: &Slip, out: &mut [u8])
+    requires { message_size executed_fields ≤ length out.old }
+    ensures { Begun (message_size executed_fields) (message (kind_byte slip.now.kind) executed_fields slip.now) out.old out.new }
 {
-    if out.len() < 40 {
-        return Err(WriteRefusal::ShortBuffer);
-    }
     put_head(slip, out);
     put(out, 23, &slip.shares.to_be_bytes());
     put(out, 27, &slip.price.to_be_bytes());
     put(out, 31, &[u8::from(slip.letter)]);
     put(out, 32, &slip.match_number.to_be_bytes());
-    Ok(40)
 }
 
-fn write_cancelled(slip: &Slip, out: &mut [u8]) -> Result<usize, WriteRefusal>
-    ensures { Writes (message_size cancelled_fields) (message (kind_byte slip.now.kind) cancelled_fields slip.now) out.old out.new result }
+#[tactic(auto, unfolding(crate::specs::Answers::head_fields, crate::specs::Answers::cancelled_fields))]
+fn put_cancelled(slip: &Slip, out: &mut [u8])
+    requires { message_size cancelled_fields ≤ length out.old }
+    ensures { Begun (message_size cancelled_fields) (message (kind_byte slip.now.kind) cancelled_fields slip.now) out.old out.new }
 {
-    if out.len() < 28 {
-        return Err(WriteRefusal::ShortBuffer);
-    }
     put_head(slip, out);
     put(out, 23, &slip.shares.to_be_bytes());
     put(out, 27, &[u8::from(slip.letter)]);
-    Ok(28)
 }
 
-fn write_cancel_rejected(slip: &Slip, out: &mut [u8]) -> Result<usize, WriteRefusal>
-    ensures { Writes (message_size head_fields) (message (kind_byte slip.now.kind) head_fields slip.now) out.old out.new result }
+#[tactic(auto, unfolding(crate::specs::Answers::head_fields, crate::specs::Answers::rejected_fields))]
+fn put_rejected(slip: &Slip, out: &mut [u8])
+    requires { message_size rejected_fields ≤ length out.old }
+    ensures { Begun (message_size rejected_fields) (message (kind_byte slip.now.kind) rejected_fields slip.now) out.old out.new }
 {
-    if out.len() < 23 {
-        return Err(WriteRefusal::ShortBuffer);
-    }
-    put_head(slip, out);
-    Ok(23)
-}
-
-fn write_rejected(slip: &Slip, out: &mut [u8]) -> Result<usize, WriteRefusal>
-    ensures { Writes (message_size rejected_fields) (message (kind_byte slip.now.kind) rejected_fields slip.now) out.old out.new result }
-{
-    if out.len() < 24 {
-        return Err(WriteRefusal::ShortBuffer);
-    }
     put_head(slip, out);
     put(out, 23, &[u8::from(slip.letter)]);
-    Ok(24)
+}
+
+impl Message for Slip {
+    ghost size = { slip_size };
+
+    ghost bytes = { slip_bytes };
+
+    #[tactic(auto, unfolding(crate::specs::Answers::head_fields, crate::specs::Answers::order_fields, crate::specs::Answers::accepted_fields, crate::specs::Answers::replaced_fields, crate::specs::Answers::executed_fields, crate::specs::Answers::cancelled_fields, crate::specs::Answers::rejected_fields))]
+    fn size(&self) -> usize {
+        match self.kind {
+            SlipKind::Accepted => 84,
+            SlipKind::Replaced => 98,
+            SlipKind::Executed => 40,
+            SlipKind::Cancelled => 28,
+            SlipKind::CancelRejected => 23,
+            SlipKind::Rejected => 24,
+        }
+    }
+
+    #[tactic(auto, unfolding(crate::specs::Answers::head_fields))]
+    fn put(&self, out: &mut [u8]) {
+        match self.kind {
+            SlipKind::Accepted => put_accepted(self, out),
+            SlipKind::Replaced => put_replaced(self, out),
+            SlipKind::Executed => put_executed(self, out),
+            SlipKind::Cancelled => put_cancelled(self, out),
+            SlipKind::CancelRejected => put_head(self, out),
+            SlipKind::Rejected => put_rejected(self, out),
+        }
+    }
 }
 
 // Writes a slip's message to the front of the host's buffer, and answers its length. A buffer that is too short is left as it was.
 pub fn write_slip(slip: &Slip, out: &mut [u8]) -> Result<usize, WriteRefusal>
     ensures { Writes (slip_size slip.now) (slip_bytes slip.now) out.old out.new result }
 {
-    match slip.kind {
-        SlipKind::Accepted => write_accepted(slip, out),
-        SlipKind::Replaced => write_replaced(slip, out),
-        SlipKind::Executed => write_executed(slip, out),
-        SlipKind::Cancelled => write_cancelled(slip, out),
-        SlipKind::CancelRejected => write_cancel_rejected(slip, out),
-        SlipKind::Rejected => write_rejected(slip, out),
-    }
+    write_message(slip, out)
 }

@@ -3,13 +3,14 @@ use crate::answer_bytes::{
     ACCEPTED, BARE_ACCEPTED, BARE_REPLACED, CANCEL_REJECTED, CANCELLED, EXECUTED, REJECTED,
     REPLACED,
 };
-use crate::buffers::slip_is_written;
+use crate::buffers::is_written;
 use crate::frames::put;
 use orders::fields::{
     Capacity, Constraint, CrossStyle, InviteGrade, LeavesMode, Lots, Peg, Side, Terms, TimeInForce,
 };
 use orders::slip::{Letter, OldOrder, Slip, SlipKind};
 use std::process::Abort;
+use ubp::write_slip::write_slip;
 
 const TERMS: Terms = Terms {
     side: Side::SellShortExempt,
@@ -81,7 +82,12 @@ fn is_told(rt: &impl Abort, slip: &Slip, message: &[u8], at: usize, byte: u8) {
     put(&mut expected, 0, message);
     put(&mut expected, at, &[byte]);
     match expected.get(0..message.len()) {
-        Some(told) => slip_is_written(rt, slip, told, &case),
+        Some(told) => is_written(
+            rt,
+            |out| write_slip(slip, out).map_err(|refused| refused.number()),
+            told,
+            &case,
+        ),
         None => panic!(rt; "{case}: a long message"),
     }
 }

@@ -1,7 +1,7 @@
 // What each coded byte of an enter is read as, and how the answers tell it again.
 use crate::answer_bytes::{ACCEPTED, REPLACED};
 use crate::answers::slip;
-use crate::buffers::slip_is_written;
+use crate::buffers::is_written;
 use crate::frames::{ENTER, any_command, put};
 use orders::command::Command;
 use orders::fields::{
@@ -9,6 +9,7 @@ use orders::fields::{
 };
 use orders::slip::{Letter, SlipKind};
 use ubp::read::read;
+use ubp::write_slip::write_slip;
 
 // The offsets of side, time in force, capacity, cross style, peg, round lot, invite grade, constraint and leaves mode.
 static ENTER_PLACES: [usize; 12] = [15, 30, 31, 32, 33, 39, 54, 55, 66, 61, 46, 48];
@@ -159,26 +160,10 @@ static CODED: [([u8; 12], Terms); 8] = [
     ),
 ];
 
-pub(crate) fn same_terms(a: &Terms, b: &Terms) -> bool {
-    let parties = a.side == b.side
-        && a.firm == b.firm
-        && a.capacity == b.capacity
-        && a.style == b.style
-        && a.grade == b.grade;
-    let what = a.stock == b.stock
-        && a.minimum == b.minimum
-        && a.leaves == b.leaves
-        && a.lots == b.lots;
-    let price = a.time == b.time && a.constraint == b.constraint && a.peg == b.peg;
-    parties && what && price
-}
-
 // Puts each byte at its place.
 fn put_each(message: &mut [u8], places: &[usize], bytes: &[u8]) {
-    for (i, at) in places.iter().enumerate() {
-        if let Some(byte) = bytes.get(i) {
-            put(message, *at, &[*byte]);
-        }
+    for (at, byte) in places.iter().zip(bytes) {
+        put(message, *at, &[*byte]);
     }
 }
 
@@ -192,7 +177,7 @@ fn each_code_is_read(rt: HostRuntime) {
         let Command::Enter(order) = command else {
             panic!(rt; "{codes:?}: no enter");
         };
-        assert!(rt; same_terms(&order.terms, terms), "{codes:?}");
+        assert_eq!(rt; order.terms, *terms, "{codes:?}");
     }
 }
 
@@ -201,17 +186,19 @@ fn each_code_is_told(rt: HostRuntime) {
     for (codes, terms) in &CODED {
         let mut accepted = ACCEPTED;
         put_each(&mut accepted, &ACCEPTED_PLACES, codes);
-        slip_is_written(
+        let slip_accepted = slip(SlipKind::Accepted, Letter::Live, Some(*terms));
+        is_written(
             &rt,
-            &slip(SlipKind::Accepted, Letter::Live, Some(*terms)),
+            |out| write_slip(&slip_accepted, out).map_err(|refused| refused.number()),
             &accepted,
             &format_args!("accepted, {codes:?}"),
         );
         let mut replaced = REPLACED;
         put_each(&mut replaced, &REPLACED_PLACES, codes);
-        slip_is_written(
+        let slip_replaced = slip(SlipKind::Replaced, Letter::Live, Some(*terms));
+        is_written(
             &rt,
-            &slip(SlipKind::Replaced, Letter::Live, Some(*terms)),
+            |out| write_slip(&slip_replaced, out).map_err(|refused| refused.number()),
             &replaced,
             &format_args!("replaced, {codes:?}"),
         );

@@ -1,12 +1,12 @@
 // Each command, read field by field and written into buffers of all lengths.
-use crate::buffers::command_is_written;
-use crate::codes::same_terms;
+use crate::buffers::is_written;
 use crate::frames::{CANCEL, ENTER, REPLACE, any_command};
 use orders::command::Command;
 use orders::fields::{
     Capacity, Constraint, CrossStyle, InviteGrade, LeavesMode, Lots, Peg, Side, Terms, TimeInForce,
 };
 use ubp::read::read;
+use ubp::write::write;
 
 const TERMS: Terms = Terms {
     side: Side::SellShort,
@@ -27,21 +27,31 @@ const TERMS: Terms = Terms {
 fn enter_is_read_field_by_field_and_written(rt: HostRuntime) {
     let mut command = any_command();
     assert!(rt; read(&ENTER, &mut command).is_ok());
-    command_is_written(&rt, &command, &ENTER, &"enter");
+    is_written(
+        &rt,
+        |out| write(&command, out).map_err(|refused| refused.number()),
+        &ENTER,
+        &"enter",
+    );
     let Command::Enter(order) = command else {
         panic!(rt; "no enter");
     };
     assert!(rt;
         order.token == *b"ENTER-TOKEN-01" && order.shares == 263_430 && order.price == 500_100
     );
-    assert!(rt; same_terms(&order.terms, &TERMS));
+    assert_eq!(rt; order.terms, TERMS);
 }
 
 #[test]
 fn replace_is_read_field_by_field_and_written(rt: HostRuntime) {
     let mut command = any_command();
     assert!(rt; read(&REPLACE, &mut command).is_ok());
-    command_is_written(&rt, &command, &REPLACE, &"replace");
+    is_written(
+        &rt,
+        |out| write(&command, out).map_err(|refused| refused.number()),
+        &REPLACE,
+        &"replace",
+    );
     let Command::Replace(order) = command else {
         panic!(rt; "no replace");
     };
@@ -59,7 +69,12 @@ fn replace_is_read_field_by_field_and_written(rt: HostRuntime) {
 fn cancel_is_read_and_written(rt: HostRuntime) {
     let mut command = any_command();
     assert!(rt; read(&CANCEL, &mut command).is_ok());
-    command_is_written(&rt, &command, &CANCEL, &"cancel");
+    is_written(
+        &rt,
+        |out| write(&command, out).map_err(|refused| refused.number()),
+        &CANCEL,
+        &"cancel",
+    );
     let Command::Cancel(order) = command else {
         panic!(rt; "no cancel");
     };

@@ -63,7 +63,7 @@ pub(crate) fn any_command() -> Command {
 // The command is written as the message, and past it nothing is touched.
 fn is_written_as(rt: &impl Abort, command: &Command, message: &[u8], case: &impl Display) {
     let mut out = [UNTOUCHED; 100];
-    let answer = write(command, &mut out);
+    let answer = write(command, &mut out).map_err(|refused| refused.number());
     written(rt, answer, &out, message, case);
 }
 
@@ -98,10 +98,8 @@ pub(crate) fn is_refused(
 
 // Puts bytes into a frame from an offset on.
 pub(crate) fn put(frame: &mut [u8], at: usize, bytes: &[u8]) {
-    for (i, byte) in bytes.iter().enumerate() {
-        if let Some(place) = frame.get_mut(at.saturating_add(i)) {
-            *place = *byte;
-        }
+    for (place, byte) in frame.iter_mut().skip(at).zip(bytes) {
+        *place = *byte;
     }
 }
 

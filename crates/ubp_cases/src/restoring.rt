@@ -1,5 +1,5 @@
 // Frames that are read and written again in one call.
-use crate::buffers::{UNTOUCHED, holds};
+use crate::buffers::{UNTOUCHED, holds, is_written};
 use crate::frames::{CANCEL, ENTER, REPLACE, enter_with};
 use std::process::Abort;
 use ubp::refusal::Refusal;
@@ -7,23 +7,12 @@ use ubp::restore::restore;
 
 // The frame is restored in buffers that have room for it, and the others are left alone.
 fn is_restored(rt: &impl Abort, frame: &[u8], name: &str) {
-    for n in 0..101usize {
-        let mut buffer = [UNTOUCHED; 100];
-        let out = &mut buffer[0..n];
-        let case = format_args!("{name}: a buffer of {n} bytes");
-        match restore(frame, out) {
-            Ok(length) => {
-                assert_eq!(rt; length, frame.len(), "{case}");
-                assert!(rt; length <= n, "{case}");
-                holds(rt, out, frame, &case);
-            }
-            Err(refused) => {
-                assert_eq!(rt; refused.number(), 31, "{case}");
-                assert!(rt; n < frame.len(), "{case}");
-                holds(rt, out, b"", &case);
-            }
-        }
-    }
+    is_written(
+        rt,
+        |out| restore(frame, out).map_err(|refused| refused.number()),
+        frame,
+        &name,
+    );
 }
 
 // The frame is refused by the reader with this number, whatever the buffer, which is left alone.
