@@ -14,18 +14,17 @@ use policy::styles::Styles;
 use session::book::parse;
 use session::book_item::{BanLine, BookItem, FrameLine, GridLine};
 use session::error::LineError;
-use session::file::cut_line;
+use session::file::Lines;
 use std::io::Read;
-use std::{env, fmt, fs, iter};
+use std::{env, fmt, fs};
 use words::counts::Counts;
 use words::frame::SessionFrame;
 
 // No contract can say what the environment or a file gives, so this function and the next stand in each program and in no library.
 fn options_of(rt: &HostRuntime) -> anyhow::Result<Options> {
-    let mut options = Options::default();
-    for word in env::args(rt)?.skip(1) {
-        options = options.with(word)?;
-    }
+    let options = env::args(rt)?
+        .skip(1)
+        .try_fold(Options::default(), Options::with)?;
     Ok(options)
 }
 
@@ -108,18 +107,8 @@ impl<A: Audience> Replay<'_, '_, A> {
         }
     }
 
-    // No function can answer an iterator that is made of a closure, so each program makes this one where it is used.
     fn take_text(&mut self, text: &[u8]) -> anyhow::Result<()> {
-        let mut rest = text;
-        let lines = iter::from_fn(move || {
-            if rest.is_empty() {
-                return None;
-            }
-            let (line, after) = cut_line(rest);
-            rest = after;
-            Some(line)
-        });
-        for (number, line) in (1..=u64::MAX).zip(lines) {
+        for (number, line) in (1..=u64::MAX).zip(Lines::of(text)) {
             self.take_line(number, line)?;
         }
         self.audience.tell_end(self.rt, &self.gathered)

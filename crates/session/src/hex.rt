@@ -1,11 +1,12 @@
 // Bytes as hex digits, and back.
-ghost use Rattle.std.specs.Prelude.{◌≡◌, ◌<◌, IfSome, IfOk, Ok, string_bytes, vec_items};
+ghost use Rattle.std.specs.Prelude.{◌≡◌, ◌<◌, IfSome, IfOk, Some, Ok, string_bytes, vec_items};
 ghost use Rattle.session.specs.Errors.{Reads};
-ghost use Rattle.session.specs.Hex.{digit_of, byte_of, letter, hex_bytes, hex_text};
+ghost use Rattle.session.specs.Hex.{digit_of, byte_of, hex_bytes, hex_text};
 
 use crate::error::LineError;
 use crate::fault::LineFault;
 use std::alloc::{AllocError, Global};
+use std::fmt;
 
 // The value of a digit, whose letter may be lower or upper case.
 fn digit_value(digit: u8) -> Option<u8>
@@ -48,29 +49,26 @@ pub fn decode(heap: Global, digits: &[u8]) -> Result<Vec<u8>, LineError>
     }
 }
 
-// The lower-case digit of a value.
-fn digit_of(value: u8) -> char
-    requires { value < 16 }
-    ensures value { result ≡ letter value }
-    ensures ascii { result < 128 }
-{
-    if value < 10 {
-        (b'0' + value) as char
-    } else {
-        (b'a' - 10 + value) as char
+// Bytes that print as lower-case digits, which decode to the same bytes.
+#[derive(Clone, Copy)]
+pub struct Hex<'a>(pub &'a [u8]);
+
+impl fmt::Display for Hex<'_> {
+    ghost output = { λ hex. Some (hex_text hex.0.now) };
+
+    fn fmt<W: fmt::Write>(&self, f: &mut fmt::Formatter<W>) -> fmt::Result {
+        for &byte in self.0 {
+            write!(f, "{byte:02x}")?;
+        }
+        Ok(())
     }
 }
 
-// The bytes as lower-case digits, which decode to the same bytes.
-#[tactic(auto, using(crate::proofs::Encoding::text_more))]
+// The text of the bytes.
+#[tactic(auto, using(crate::proofs::Encoding::decodes))]
 pub fn encode(heap: Global, bytes: &[u8]) -> Result<String, AllocError>
     ensures text { IfOk result (λ s. string_bytes s ≡ hex_text bytes.now) }
     ensures again { IfOk result (λ s. hex_bytes (string_bytes s) ≡ Ok bytes.now) }
 {
-    let mut text = String::new(heap);
-    for byte in bytes {
-        text.push(digit_of(*byte / 16))?;
-        text.push(digit_of(*byte % 16))?;
-    }
-    Ok(text)
+    Hex(bytes).to_string(heap)
 }

@@ -6,6 +6,8 @@ mod digits;
 #[cfg(test)]
 mod lines_of_a_book;
 #[cfg(test)]
+mod lines_of_a_text;
+#[cfg(test)]
 mod lines_of_frames;
 #[cfg(test)]
 mod lines_to_compare;

@@ -1,10 +1,10 @@
 // An example of each answer.
-use crate::hex::Hex;
 use crate::slip::SlipWords;
 use orders::fields::{
     Capacity, Constraint, CrossStyle, InviteGrade, LeavesMode, Lots, Peg, Side, Terms, TimeInForce,
 };
 use orders::slip::{Letter, OldOrder, Slip, SlipKind};
+use session::hex::Hex;
 use std::fmt;
 use ubp::write_slip::write_slip;
 

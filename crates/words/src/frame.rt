@@ -3,9 +3,9 @@ ghost use Rattle.std.specs.Prelude.{◌≡◌};
 ghost use Rattle.ubp.specs.Frames.{ReadsCommand};
 
 use crate::command::{COMMAND_ROOM, CommandWords};
-use crate::hex::Hex;
 use crate::refusal::RefusalWords;
 use orders::command::{CancelOrder, Command};
+use session::hex::Hex;
 use std::fmt;
 use ubp::read::read;
 use ubp::refusal::ReadRefusal;

@@ -6,7 +6,6 @@ pub mod counts;
 pub mod examples;
 mod fields;
 pub mod frame;
-mod hex;
 pub mod lines;
 pub mod party;
 pub mod price;

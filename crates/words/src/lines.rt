@@ -1,6 +1,6 @@
 // The lines by which engines are compared.
 use crate::command::COMMAND_ROOM;
-use crate::hex::Hex;
+use session::hex::Hex;
 use std::fmt;
 use ubp::refusal::{ReadRefusal, Refusal};
 use ubp::restore::restore;
