@@ -108,6 +108,7 @@ impl<A: Audience> Replay<'_, '_, A> {
         }
     }
 
+    // No function can answer an iterator that is made of a closure, so each program makes this one where it is used.
     fn take_text(&mut self, text: &[u8]) -> anyhow::Result<()> {
         let mut rest = text;
         let lines = iter::from_fn(move || {

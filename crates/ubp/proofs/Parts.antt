@@ -1,6 +1,5 @@
 -- A list by its parts.
 use Rattle.std.proofs.Common.{◌≡◌, ℕ, ◌+◌, ◌-◌, ◌*◌, ◌/◌, ◌%◌, ◌^◌, ◌<◌, ◌≤◌, Bool, true, false, cond, eqb, List, [], ◌∷◌, ◌++◌, length, get_or, take, drop, replicate, ℤ, Some, Option, sym, refl, ap, ◌∙◌, add-zero, arith, w8, w32, Fits, SFits, to_z, of_z, eqb-true}
-use borrow.Rule.Slice.PartMut.{put_mid}
 use Rattle.std.proofs.lemmas.Int.{of_z-to_z, to_z-of_z}
 use Rattle.orders.specs.Codes.{coded}
 use Rattle.ubp.specs.Bytes.{all_are, big4, bytes4}
@@ -33,11 +32,6 @@ more {i} {ms} {xs} {ys} {zs} n bs b e z =
 -- the same bytes, told otherwise
 pub begun_as : {n : ℕ} {ms ws xs ys : List ℕ} → Begun n ms xs ys → ms ≡ ws → Begun n ws xs ys
 begun_as {n} {ms} {ws} {xs} b e = record { long = ap length (sym e) ∙ b.long; now = b.now ∙ ap (λ zs. zs ++ drop n xs) e }
-
--- what a copy into a part leaves
-pub copied : (a k : ℕ) (xs ys bs : List ℕ) → ys ≡ bs → k ≡ length bs → put_mid a k xs ys ≡ put_at a bs xs
-copied a k xs ys bs e h =
-    ap (λ zs. take a xs ++ (zs ++ drop k (drop a xs))) e ∙ ap (λ zs. take a xs ++ (bs ++ zs)) (drop-drop k a xs ∙ ap (λ m. drop (a + m) xs) h)
 
 part_len : (i n : ℕ) (xs : List ℕ) → i + n ≤ length xs → length (take n (drop i xs)) ≡ n
 part_len i n xs h = simp (length-take, length-drop) (omega arith)

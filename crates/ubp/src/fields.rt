@@ -16,6 +16,7 @@ pub(crate) fn bytes<const N: usize>(part: &[u8]) -> [u8; N]
     *part.first_chunk().unwrap()
 }
 
+// `number` and `signed` stay two: std has no trait for `from_be_bytes`, and one of our own is longer than both.
 pub(crate) fn number(part: &[u8]) -> u32
     requires { 4 ≤ length part.now }
     ensures { result ≡ big4 part.now }

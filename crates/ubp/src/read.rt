@@ -24,6 +24,7 @@ fn read_command(frame: &[u8]) -> Result<Command, ReadRefusal>
 
 // A rule of the project: the caller holds a lawful command, which the reader fills, and the answer is a plain Result.
 // Reads a frame into the caller's command. A refusal leaves that as it was. The frame of any command is read back as that command.
+#[tactic(auto, using(crate::proofs::OwnCommands::told_own))]
 pub fn read(frame: &[u8], into: &mut Command) -> Result<(), ReadRefusal>
     ensures answer { result ≡ verdict frame.now }
     ensures filled { Fills frame.now result into.old into.new }

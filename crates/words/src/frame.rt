@@ -1,6 +1,6 @@
 // The frames of a session file in words: the command that one brings, and whether writing it restores the frame.
-ghost use Rattle.std.specs.Prelude.{◌≡◌, Err, MatchResult};
-ghost use Rattle.ubp.specs.Frames.{encoded, verdict};
+ghost use Rattle.std.specs.Prelude.{◌≡◌};
+ghost use Rattle.ubp.specs.Frames.{ReadsCommand};
 
 use crate::command::{COMMAND_ROOM, CommandWords};
 use crate::hex::Hex;
@@ -29,7 +29,7 @@ struct WrittenBack<'a> {
 }
 
 fn command_of(bytes: &[u8]) -> Result<Command, ReadRefusal>
-    ensures { MatchResult result (λ command. bytes.now ≡ encoded command) (λ refusal. verdict bytes.now ≡ Err refusal) }
+    ensures { ReadsCommand bytes.now result }
 {
     let mut command = Command::Cancel(CancelOrder { token: [b' '; 14] });
     read(bytes, &mut command)?;
@@ -42,7 +42,7 @@ impl<'a> SessionFrame<'a> {
         ensures number { result.number ≡ number }
         ensures line { result.line ≡ line }
         ensures bytes { result.bytes.now ≡ bytes.now }
-        ensures answer { MatchResult result.answer (λ command. bytes.now ≡ encoded command) (λ refusal. verdict bytes.now ≡ Err refusal) }
+        ensures answer { ReadsCommand bytes.now result.answer }
     {
         SessionFrame {
             number,
