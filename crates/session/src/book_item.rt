@@ -1,4 +1,4 @@
-// The items of a book's session file.
+// The items of a book's session file. A category is a number here, as the line has it: whether there is such a category is asked by the policy and by the book, which refuse with numbers of their own.
 
 #[derive(PartialEq, Eq, Debug, Drop)]
 pub enum BookItem {

@@ -12,6 +12,7 @@ use crate::refusal::WriteRefusal;
 use orders::command::{CancelOrder, Command, ReplaceOrder};
 use orders::enter::EnterOrder;
 
+// Each step asks for room for just what it puts, so the sizes differ and no type of buffer can say them for all.
 // What is to be traded: the fields from the token to the firm.
 fn put_enter_trade(order: &EnterOrder, out: &mut [u8])
     requires { 38 ≤ length out.old }

@@ -1,5 +1,5 @@
 // Texts and numbers that the reader takes whatever they are.
-use crate::frames::{CANCEL, any_command, comes_back, enter_with, put, replace_with};
+use crate::frames::{CANCEL, ENTER, REPLACE, any_command, comes_back, put, with};
 use orders::command::Command;
 use std::fmt::Display;
 use std::process::Abort;
@@ -78,7 +78,7 @@ fn any_price_shares_and_minimum_are_read(rt: HostRuntime) {
         let case = format_args!("enter, {bytes:?} at {at}");
         has(
             &rt,
-            &enter_with(*at, bytes),
+            &with(&ENTER, *at, bytes),
             *shares,
             *price,
             *minimum,
@@ -89,7 +89,7 @@ fn any_price_shares_and_minimum_are_read(rt: HostRuntime) {
         let case = format_args!("replace, {bytes:?} at {at}");
         has(
             &rt,
-            &replace_with(*at, bytes),
+            &with(&REPLACE, *at, bytes),
             *shares,
             *price,
             *minimum,
@@ -102,13 +102,13 @@ fn any_price_shares_and_minimum_are_read(rt: HostRuntime) {
 fn token_stock_and_firm_are_any_bytes(rt: HostRuntime) {
     for byte in [0x00, 0x20, 0xFF] {
         let texts = [byte; 28];
-        let mut enter = enter_with(1, &texts[0..14]);
+        let mut enter = with(&ENTER, 1, &texts[0..14]);
         put(&mut enter, 20, &texts[0..6]);
         put(&mut enter, 34, &texts[0..4]);
         comes_back(&rt, &enter, &format_args!("enter, {byte}"));
         comes_back(
             &rt,
-            &replace_with(1, &texts),
+            &with(&REPLACE, 1, &texts),
             &format_args!("replace, {byte}"),
         );
         let mut cancel = CANCEL;

@@ -103,16 +103,9 @@ pub(crate) fn put(frame: &mut [u8], at: usize, bytes: &[u8]) {
     }
 }
 
-// The hand-made enter, with other bytes from an offset on.
-pub(crate) fn enter_with(at: usize, bytes: &[u8]) -> [u8; 67] {
-    let mut frame = ENTER;
-    put(&mut frame, at, bytes);
-    frame
-}
-
-// The hand-made replace, with other bytes from an offset on.
-pub(crate) fn replace_with(at: usize, bytes: &[u8]) -> [u8; 60] {
-    let mut frame = REPLACE;
-    put(&mut frame, at, bytes);
-    frame
+// The frame with other bytes from an offset on.
+pub(crate) fn with<const N: usize>(frame: &[u8; N], at: usize, bytes: &[u8]) -> [u8; N] {
+    let mut changed = *frame;
+    put(&mut changed, at, bytes);
+    changed
 }

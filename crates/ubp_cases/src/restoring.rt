@@ -1,6 +1,6 @@
 // Frames that are read and written again in one call.
 use crate::buffers::{UNTOUCHED, holds, is_written};
-use crate::frames::{CANCEL, ENTER, REPLACE, enter_with};
+use crate::frames::{CANCEL, ENTER, REPLACE, with};
 use std::process::Abort;
 use ubp::refusal::Refusal;
 use ubp::restore::restore;
@@ -41,5 +41,5 @@ fn what_is_not_read_touches_nothing(rt: HostRuntime) {
     is_not_read(&rt, b"", 11);
     is_not_read(&rt, b"X", 11);
     is_not_read(&rt, b"x", 12);
-    is_not_read(&rt, &enter_with(15, b"b"), 13);
+    is_not_read(&rt, &with(&ENTER, 15, b"b"), 13);
 }

@@ -1,5 +1,5 @@
 // Frames with a wrong field: the refusal carries the offset where the lowest wrong field starts.
-use crate::frames::{CANCEL, REPLACE, comes_back, enter_with, is_refused, put};
+use crate::frames::{CANCEL, ENTER, REPLACE, comes_back, is_refused, put, with};
 use std::process::Abort;
 
 // The bytes of one field, from the first to the last, and what each of them may be: any byte where nothing is listed.
@@ -113,7 +113,7 @@ fn every_byte_is_tried(rt: &impl Abort, frame: &mut [u8], fields: &[Field], name
 
 #[test]
 fn each_field_takes_its_list_and_nothing_else(rt: HostRuntime) {
-    let mut enter = enter_with(30, &[0; 4]);
+    let mut enter = with(&ENTER, 30, &[0; 4]);
     put(&mut enter, 46, b" ");
     every_byte_is_tried(&rt, &mut enter, &ENTER_FIELDS, "enter");
     let mut replace = REPLACE;
@@ -125,7 +125,7 @@ fn each_field_takes_its_list_and_nothing_else(rt: HostRuntime) {
 #[test]
 fn the_lowest_wrong_field_is_told(rt: HostRuntime) {
     for (i, byte, j, other, field) in &WRONG_PAIRS {
-        let mut enter = enter_with(*i, &[*byte]);
+        let mut enter = with(&ENTER, *i, &[*byte]);
         put(&mut enter, *j, &[*other]);
         is_refused(&rt, &enter, 13, Some(*field), &format_args!("{i} and {j}"));
     }
