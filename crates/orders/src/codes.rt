@@ -1,5 +1,6 @@
 // The byte or number that stands for each value of a coded field, and the value that a byte or number stands for.
-ghost use Rattle.std.specs.Prelude.{◌≡◌};
+// Two tables for each type, read side by side: discriminants would put the wire into the subject's types, and one search through lists of values for all types would show no byte beside its value.
+ghost use Rattle.std.specs.Prelude.{◌≡◌, Some, codes};
 ghost use Rattle.std.specs.Result.{result_ok};
 ghost use Rattle.orders.specs.Codes.{side_byte, side_of, capacity_byte, capacity_of, style_byte, style_of, peg_byte, peg_of, constraint_byte, constraint_of, leaves_byte, leaves_of, lots_byte, lots_of, grade_number, grade_of, time_number, time_of, category_number, category_of, kind_byte, letter_byte};
 
@@ -16,6 +17,8 @@ use std::fmt;
 pub struct Unlisted;
 
 impl fmt::Display for Unlisted {
+    ghost output = { λ _. Some (codes "a number that stands for no value of its field") };
+
     fn fmt<W: fmt::Write>(&self, f: &mut fmt::Formatter<W>) -> fmt::Result {
         f.write_str("a number that stands for no value of its field")
     }

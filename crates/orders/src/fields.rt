@@ -1,5 +1,5 @@
-// The coded fields of an order, one variant for each lawful value, its fixed texts, and the price that is no limit. Where a message may leave a value out by a space, that is a variant of its own, so that
-// writing an order again restores its bytes.
+// The coded fields of an order, one variant for each lawful value, its fixed texts, and the price that is no limit. Where a message may leave a value out by a space, the space is one of the field's own
+// values, and so a variant and no `Option`: an order that is written again restores its bytes.
 
 // The name that a client gives to an order.
 pub type Token = [u8; 14];
@@ -10,11 +10,11 @@ pub type Stock = [u8; 6];
 // The market participant that sent an order.
 pub type Firm = [u8; 4];
 
-// The price of an order that has no limit.
+// The price of an order that has no limit: a rule of the format, which has this number on the wire. An `Option` would have two values for one frame, `None` and the number itself.
 pub const NO_LIMIT: i32 = 2147483647;
 
 // Which way an order goes: all but `Buy` are sells.
-#[derive(Clone, Copy, PartialEq, Eq)]
+#[derive(Clone, Copy, PartialEq, Eq, Debug)]
 pub enum Side {
     Buy,
     Sell,
@@ -23,14 +23,14 @@ pub enum Side {
 }
 
 // For whom an order is sent: for a customer, or for the broker's own account.
-#[derive(Clone, Copy, PartialEq, Eq)]
+#[derive(Clone, Copy, PartialEq, Eq, Debug)]
 pub enum Capacity {
     Agency,
     Principal,
 }
 
 // Which parties an order bars. `AgencyOnly` bars principals, `NoSelf` the same client, `NotFive` source category 5.
-#[derive(Clone, Copy, PartialEq, Eq)]
+#[derive(Clone, Copy, PartialEq, Eq, Debug)]
 pub enum CrossStyle {
     All,
     AgencyOnly,
@@ -43,7 +43,7 @@ pub enum CrossStyle {
 }
 
 // What an order's standing price follows: the midpoint of the quote, its own side of the quote, or only its limit.
-#[derive(Clone, Copy, PartialEq, Eq)]
+#[derive(Clone, Copy, PartialEq, Eq, Debug)]
 pub enum Peg {
     Midpoint,
     Unpegged,
@@ -51,7 +51,7 @@ pub enum Peg {
 }
 
 // How far from the midpoint a midpoint order may trade. Unstated means up to the limit.
-#[derive(Clone, Copy, PartialEq, Eq)]
+#[derive(Clone, Copy, PartialEq, Eq, Debug)]
 pub enum Constraint {
     Unstated,
     FillToLimit,
@@ -59,7 +59,7 @@ pub enum Constraint {
 }
 
 // What becomes of the minimum quantity once fewer shares are left. Not stated means that it is dropped.
-#[derive(Clone, Copy, PartialEq, Eq)]
+#[derive(Clone, Copy, PartialEq, Eq, Debug)]
 pub enum LeavesMode {
     NotStated,
     DropMinimum,
@@ -68,21 +68,21 @@ pub enum LeavesMode {
 }
 
 // How long an order stays: what does not trade at once is cancelled, or rests until the close.
-#[derive(Clone, Copy, PartialEq, Eq)]
+#[derive(Clone, Copy, PartialEq, Eq, Debug)]
 pub enum TimeInForce {
     Immediate,
     MarketHours,
 }
 
 // Whether an order trades in multiples of 100 shares only.
-#[derive(Clone, Copy, PartialEq, Eq)]
+#[derive(Clone, Copy, PartialEq, Eq, Debug)]
 pub enum Lots {
     RoundOnly,
     AnyLot,
 }
 
 // Which conditional indications an order invites: none, all, or those of a score from this one up.
-#[derive(Clone, Copy, PartialEq, Eq)]
+#[derive(Clone, Copy, PartialEq, Eq, Debug)]
 pub enum InviteGrade {
     Nobody,
     Anyone,
@@ -92,7 +92,7 @@ pub enum InviteGrade {
 }
 
 // What an order states beside its token, its shares and its price. A constraint may stand beside any peg here: an order that is replaced keeps its constraint, whatever the new peg.
-#[derive(Clone, Copy)]
+#[derive(Clone, Copy, PartialEq, Eq, Debug)]
 pub struct Terms {
     pub side: Side,
     pub stock: Stock,

@@ -2,7 +2,7 @@
 use crate::fields::{Capacity, CrossStyle};
 
 // The source category that the broker gives to an order's origin.
-#[derive(Clone, Copy, PartialEq, Eq)]
+#[derive(Clone, Copy, PartialEq, Eq, Debug)]
 pub enum Category {
     One,
     Two,
@@ -12,7 +12,7 @@ pub enum Category {
 }
 
 // What a policy knows of an order: no other party exists.
-#[derive(Clone, Copy)]
+#[derive(Clone, Copy, PartialEq, Eq, Debug)]
 pub struct Party {
     pub client: u32,
     pub category: Category,

@@ -1,6 +1,9 @@
 -- Each command's frame is read, and tells the command.
 use Rattle.std.proofs.Common.{◌≡◌, ℕ, ◌/◌, ◌^◌, ◌<◌, List, [], ◌∷◌, length, get_or, drop, ℤ, is_some, Some, Ok, Err, Option, sym, refl, ap, ◌∙◌, arith, w32, to_z, of_z, MatchResult}
 use denote.Struct.Record.{values_one}
+use Rattle.std.specs.Prelude.{FitsSigned}
+use Rattle.std.proofs.Math.Facts.{Fits-of_z}
+use Rattle.std.proofs.lemmas.Int.{to_z-of_z}
 use Rattle.orders.specs.Codes.{side_byte, side_of, time_number, time_of, capacity_byte, capacity_of, constraint_byte, constraint_of, leaves_byte, leaves_of, style_byte, style_of, peg_byte, peg_of, grade_number, grade_of, lots_byte, lots_of}
 use Rattle.orders.proofs.FoundAgain.{side_is, capacity_is, constraint_is, leaves_is, style_is, peg_is, grade_is, lots_is}
 use Rattle.orders.specs.declared.fields.TimeInForce.{TimeInForce}
@@ -203,8 +206,9 @@ big_bytes n h =
 number_same : (m n : ℕ) → m < 2 ^ 32 → n < 2 ^ 32 → bytes4 m ≡ bytes4 n → m ≡ n
 number_same m n p q e = sym (big_bytes m p) ∙ ap big4 e ∙ big_bytes n q
 
-price_same : (x y : ℤ) → (of_z w32 x < 2 ^ 32) × (to_z w32 (of_z w32 x) ≡ x) → (of_z w32 y < 2 ^ 32) × (to_z w32 (of_z w32 y) ≡ y) → bytes4 (of_z w32 x) ≡ bytes4 (of_z w32 y) → x ≡ y
-price_same x y p q e = sym p.1 ∙ ap (to_z w32) (number_same (of_z w32 x) (of_z w32 y) p.0 q.0 e) ∙ q.1
+price_same : (x y : ℤ) → FitsSigned w32 x → FitsSigned w32 y → bytes4 (of_z w32 x) ≡ bytes4 (of_z w32 y) → x ≡ y
+price_same x y p q e =
+    sym (to_z-of_z w32 x p) ∙ ap (to_z w32) (number_same (of_z w32 x) (of_z w32 y) (Fits-of_z p).fits (Fits-of_z q).fits e) ∙ to_z-of_z w32 y q
 
 cancel_same : (c d : CancelOrder) → bytes_of cancel_fields c ≡ bytes_of cancel_fields d → c ≡ d
 unfolding cancel_fields

@@ -120,13 +120,6 @@ module _ (i : ℕ) (xs : List ℕ) (t : Bytes xs) (h : i + 4 ≤ length xs) wher
   pub number_fits : {r : ℕ} → r ≡ big4 (take (length xs - i) (drop i xs)) → r < 2 ^ 32
   number_fits e = rw (e ∙ ap big4 (take_rest xs i)) big_lt
 
-  pub signed_fits : {r : ℤ} → r ≡ to_z w32 (big4 (take (length xs - i) (drop i xs))) → let z = to_z w32 (of_z w32 r) in (of_z w32 z < 2 ^ 32) × (to_z w32 (of_z w32 z) ≡ z)
-  signed_fits {r} e =
-      let o : of_z w32 r ≡ big4 (drop i xs) = ap (of_z w32) (e ∙ ap (λ ys. to_z w32 (big4 ys)) (take_rest xs i)) ∙ of_z-to_z w32 (big4 (drop i xs)) big_lt in
-      let l : of_z w32 r < 2 ^ 32 = rw o big_lt in
-      let k : of_z w32 (to_z w32 (of_z w32 r)) ≡ of_z w32 r = of_z-to_z w32 (of_z w32 r) l in
-      (rw k l, ap (to_z w32) k)
-
 -- the length of a part that was copied
 pub copy_long : (i n : ℕ) (xs : List ℕ) {r : List ℕ} → i + n ≤ length xs → r ≡ take n (take (length xs - i) (drop i xs)) → length r ≡ n
 copy_long i n xs h e = ap length (sym (copy_at i n xs e)) ∙ part_len i n xs h

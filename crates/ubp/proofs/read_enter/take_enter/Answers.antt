@@ -1,11 +1,11 @@
-use Rattle.std.proofs.Common.{◌≡◌, length, get_or, sym, refl, ap, ◌∙◌, arith}
+use Rattle.std.proofs.Common.{◌≡◌, length, get_or, sym, refl, ap, ◌∙◌, arith, rules}
 use Rattle.std.specs.Result.{result_ok}
 use Rattle.std.proofs.lemmas.List.{take_rest}
 use Rattle.orders.specs.Codes.{time_number, times, time_of, style_byte, styles, style_of, peg_byte, pegs, peg_of, lots_byte, lots_kinds, lots_of, side_byte, sides, side_of, capacity_byte, capacities, capacity_of, constraint_byte, constraints, leaves_byte, leaves_modes, leaves_of, grade_number, grades, grade_of}
 use Rattle.ubp.specs.Bytes.{big4}
 use Rattle.ubp.specs.Commands.{enter_type, enter_fields, beside_peg}
 use Rattle.ubp.proofs.Layouts.{here, nine_on}
-use Rattle.ubp.proofs.Parts.{found, part, ends, copy_at, fill_at, number_at, signed_at, coded_at, code_at, copy_long, number_fits, signed_fits}
+use Rattle.ubp.proofs.Parts.{found, part, ends, copy_at, fill_at, number_at, signed_at, coded_at, code_at, copy_long, number_fits}
 use Rattle.ubp.proofs.Pegs.{constraint_some, may_state_holds}
 use Rattle.ubp.proofs.Verdicts.{taken}
 use Rattle.ubp.proofs.read_enter.take_enter.Goals as goal
@@ -75,7 +75,7 @@ invariant_of-result c =
       pegged = may_state_holds (get_or f 45 0) (get_or f 54 0) (nine_on 45 f beside_peg ∙ ok 12) (sym c.try_from-4.ensures ∙ ap result_ok c.unwrap-4.ensures) (sym c.try_from-7.ensures ∙ ap result_ok c.unwrap-7.ensures);
       sized = (copy_long 0 14 f (omega arith) c.bytes.ensures, copy_long 19 6 f (omega arith) c.bytes-2.ensures, copy_long 33 4 f (omega arith) c.bytes-3.ensures);
       fits = (number_fits 15 f t (omega arith) c.number.ensures, number_fits 40 f t (omega arith) c.number-3.ensures);
-      priced = signed_fits 25 f t (omega arith) c.signed.ensures;
+      priced = search rules;
     }
 
 pub returns : goal.returns
