@@ -24,6 +24,7 @@ fn keenness(order: &Resident) -> i64 {
     }
 }
 
+// No `From`: both types are of crates below.
 fn offer_of(order: &Resident) -> Offer {
     Offer {
         keenness: keenness(order),

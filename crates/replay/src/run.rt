@@ -10,7 +10,7 @@ use std::{env, fs};
 use words::counts::Counts;
 use words::frame::SessionFrame;
 
-// No contract can say what the environment or a file gives, so this function and the next stand in each program and in no library.
+// Everything public promises something, by a rule of the project, and no contract can say what the environment or a file gives: so this function and the next stand in each program and in no library.
 fn options_of(rt: &HostRuntime) -> anyhow::Result<Options> {
     let options = env::args(rt)?
         .skip(1)
@@ -18,7 +18,7 @@ fn options_of(rt: &HostRuntime) -> anyhow::Result<Options> {
     Ok(options)
 }
 
-// The session file's text.
+// The session file's text. A file's error gets its path before it; that text can fail itself, so it is made in an arm and not by `map_err`.
 fn text_of(rt: &HostRuntime, options: &Options) -> anyhow::Result<Vec<u8>> {
     if let Some(path) = &options.path {
         return match fs::read(rt, path.as_str()) {
@@ -79,6 +79,7 @@ fn run_for<A: Audience + Drop>(rt: &HostRuntime, text: &[u8], audience: A) -> an
     replay.take_text(text)
 }
 
+// The same in both programs, whose audiences and runs are types of their own.
 pub(crate) fn run(rt: &HostRuntime) -> anyhow::Result<()> {
     let options = options_of(rt)?;
     let text = text_of(rt, &options)?;
