@@ -49,7 +49,7 @@ pub fn decode(heap: Global, digits: &[u8]) -> Result<Vec<u8>, LineError>
     }
 }
 
-// Bytes that print as lower-case digits, which decode to the same bytes.
+// Bytes that print as digits, in lower case.
 #[derive(Clone, Copy)]
 pub struct Hex<'a>(pub &'a [u8]);
 
@@ -64,7 +64,7 @@ impl fmt::Display for Hex<'_> {
     }
 }
 
-// The text of the bytes.
+// The bytes as lower-case digits, which decode to the same bytes.
 #[tactic(auto, using(crate::proofs::Encoding::decodes))]
 pub fn encode(heap: Global, bytes: &[u8]) -> Result<String, AllocError>
     ensures text { IfOk result (λ s. string_bytes s ≡ hex_text bytes.now) }
