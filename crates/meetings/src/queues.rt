@@ -10,7 +10,7 @@ use words::price::PriceWords;
 use words::text::TextWords;
 
 fn is_buy(order: &Resident) -> bool {
-    matches!(order.terms.side, Side::Buy)
+    order.terms.side == Side::Buy
 }
 
 // The keenness of an order's limit. No quote is known here, so an order without a limit is ranked as if it stood at the best price that there is for the other side.

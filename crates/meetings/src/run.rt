@@ -28,20 +28,17 @@ fn options_of(rt: &HostRuntime) -> anyhow::Result<Options> {
     Ok(options)
 }
 
-// The session file's text. A file's error gets its path before it; that text can fail itself, so it is made in an arm and not by `map_err`.
+// The session file's text.
 fn text_of(rt: &HostRuntime, options: &Options) -> anyhow::Result<Vec<u8>> {
     if let Some(path) = &options.path {
-        return match fs::read(rt, path.as_str()) {
-            Ok(text) => Ok(text),
-            Err(error) => Err(anyhow!(format!(in rt.alloc(); "{path}: {error}")?)),
-        };
+        return fs::read(rt, path.as_str()).map_err(|error| anyhow!("{path}: {error}"));
     }
     let mut text = Vec::new(rt.alloc());
     let _ = rt.stdin().read_to_end(&mut text)?;
     Ok(text)
 }
 
-// A run that goes on from line to line.
+// A run that goes on from line to line. It, its audiences and what chooses them stand in both programs, since what is gathered and told differs, and a run in a library could promise nothing of what it prints.
 #[derive(Drop)]
 struct Replay<'a, 'b, A> {
     rt: &'a HostRuntime,
@@ -131,7 +128,6 @@ fn run_for<A: Audience + Drop>(rt: &HostRuntime, text: &[u8], audience: A) -> an
     replay.take_text(text)
 }
 
-// The same in both programs, whose audiences and runs are types of their own.
 pub(crate) fn run(rt: &HostRuntime) -> anyhow::Result<()> {
     let options = options_of(rt)?;
     let text = text_of(rt, &options)?;

@@ -2,6 +2,7 @@
 ghost use Rattle.std.specs.Prelude.{◌≡◌, [], length};
 ghost use Rattle.orders.specs.Codes.{category_of};
 ghost use Rattle.policy.specs.PerCategory.{at};
+ghost use Rattle.orders.specs.declared.party.Category.{Category};
 ghost use Rattle.policy.specs.Grid.{meets, grid_allows, open_meetings, AllMeet, set_meets, after_setting, setting_answer, OnlySet};
 ghost use Rattle.std.proofs.Common.{rules};
 
@@ -14,6 +15,7 @@ use orders::party::{Category, Party};
 pub struct Grid<P> {
     pub below: P,
     rows: [[bool; 5]; 5],
+    ghost wide: { (c : Category) → length (at rows c []) ≡ 5 },
 }
 
 impl<P> Grid<P> {
@@ -36,11 +38,9 @@ impl<P> Grid<P> {
         self.rows[category as usize][other as usize]
     }
 
-    // `wide` is what the type of the rows says of the row that is written to.
     fn put(&mut self, category: Category, other: Category, on: bool)
         ensures rows { self.new.rows ≡ set_meets self.old.rows category other on }
         ensures below { self.new.below ≡ self.old.below }
-        ensures wide { length (at self.old.rows category []) ≡ 5 }
     {
         self.rows[category as usize][other as usize] = on;
     }
@@ -54,6 +54,7 @@ impl<P> Grid<P> {
         ensures below { self.new.below ≡ self.old.below }
         ensures answer { result ≡ setting_answer (category_of category) (category_of other) }
     {
+        // `Unlisted` stands for a code of any field, so it becomes this refusal here and by no `From`.
         let from = Category::try_from(category).map_err(|_| PolicyRefusal::NoCategory)?;
         let to = Category::try_from(other).map_err(|_| PolicyRefusal::NoCategory)?;
         self.put(from, to, on);

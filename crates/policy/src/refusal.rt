@@ -1,4 +1,4 @@
-// Why a setting of a policy is refused. That each refusal has a number outside is a rule of the project; inside it is an enum.
+// Why a setting of a policy is refused. That each refusal has a number outside is a rule of the project; inside it is an enum, and `number` says which number where a `From` into `u8` would not.
 ghost use Rattle.std.specs.Prelude.{◌≡◌};
 ghost use Rattle.policy.specs.Refusals.{refusal_number};
 

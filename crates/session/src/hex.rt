@@ -13,12 +13,7 @@ fn digit_value(digit: u8) -> Option<u8>
     ensures value { result ≡ digit_of digit }
     ensures small { IfSome result (λ d. d < 16) }
 {
-    match digit {
-        b'0'..=b'9' => Some(digit - b'0'),
-        b'a'..=b'f' => Some(digit - b'a' + 10),
-        b'A'..=b'F' => Some(digit - b'A' + 10),
-        _ => None,
-    }
+    char::from(digit).to_digit(16).map(|d| d as u8)
 }
 
 // The byte that two digits spell.

@@ -1,4 +1,4 @@
-// What one line of a session file says.
+// What one line of a session file says, where the file has frames alone. A book's file has a parser and an item type of its own (`book`): a line with another item is wrong here, and says something there.
 ghost use Rattle.session.specs.Errors.{Reads};
 ghost use Rattle.session.specs.Lines.{item_of, said};
 

@@ -1,4 +1,4 @@
-// Decimal numbers.
+// Decimal numbers, of digits alone: the library's `parse` takes a sign too.
 ghost use Rattle.std.specs.Prelude.{◌≡◌, ℕ, ◌<◌, ◌≤◌, ◌^◌, Result, MatchResult};
 ghost use Rattle.std.specs.declared.num.TryFromIntError.{TryFromIntError};
 ghost use Rattle.std.proofs.Common.{rules};

@@ -9,6 +9,7 @@ fn is_blank(byte: u8) -> bool
     matches!(byte, b' ' | b'\t' | b'\r')
 }
 
+// Four counts of the bytes at the front, each with its test where it is used: one function over any test (tried) needs a clause on what the test answers, a bound, and answers in three functions.
 // How many blanks are at the front.
 fn blank_length(text: &[u8]) -> usize
     ensures { result ≡ front_length blank text.now }

@@ -2,7 +2,7 @@
 ghost use Rattle.std.specs.Prelude.{◌≡◌, IfOk, vec_items};
 ghost use Rattle.session.specs.Errors.{Finds, Reads};
 ghost use Rattle.session.specs.Scan.{rest_of};
-ghost use Rattle.session.specs.Words.{name_of, after_name, only_word, bytes_of, flag_of, first_number, only_number, only_bytes, only_flag};
+ghost use Rattle.session.specs.Words.{name_of, after_name, only_word, bytes_of, flag_of, first_word, first_number, only_number, only_bytes, only_flag};
 
 use crate::error::LineError;
 use crate::fault::LineFault;
@@ -19,14 +19,24 @@ pub(crate) fn item_words(line: &[u8]) -> (&[u8], &[u8])
     next_word(before_comment(line))
 }
 
+// The first word, which may not be missing, and what follows it.
+fn first_word(text: &[u8]) -> Result<(&[u8], &[u8]), LineFault>
+    ensures word { Finds (λ p. p.0.now) result (first_word text.now) }
+    ensures rest { IfOk result (λ p. p.1.now ≡ rest_of text.now) }
+{
+    let (word, rest) = next_word(text);
+    if word.is_empty() {
+        Err(LineFault::MissingWord)
+    } else {
+        Ok((word, rest))
+    }
+}
+
 // The word of a text that has exactly one.
 fn only_word(text: &[u8]) -> Result<&[u8], LineFault>
     ensures { Finds (λ w. w.now) result (only_word text.now) }
 {
-    let (word, rest) = next_word(text);
-    if word.is_empty() {
-        return Err(LineFault::MissingWord);
-    }
+    let (word, rest) = first_word(text)?;
     let (extra, _) = next_word(rest);
     if extra.is_empty() {
         Ok(word)
@@ -61,10 +71,7 @@ pub(crate) fn first_number<N: Unsigned>(text: &[u8]) -> Result<(N, &[u8]), LineF
     ensures value { Finds (λ p. N.value p.0) result (first_number N.most text.now) }
     ensures rest { IfOk result (λ p. p.1.now ≡ rest_of text.now) }
 {
-    let (word, rest) = next_word(text);
-    if word.is_empty() {
-        return Err(LineFault::MissingWord);
-    }
+    let (word, rest) = first_word(text)?;
     Ok((number(word)?, rest))
 }
 

@@ -1,4 +1,4 @@
-// Field readers: each takes a part of the frame that starts at its field.
+// Field readers: each takes a part of the frame that starts at its field, by a rule of the project. So a reader names the field's offset in the frame beside its place in the part, and no struct over the fields hides either.
 ghost use Rattle.std.specs.Prelude.{◌≡◌, ◌≤◌, true, false, length, take, Ok, Err, MatchResult};
 ghost use Rattle.std.proofs.Common.{to_z};
 ghost use Rattle.std.specs.Int.{w32};

@@ -10,7 +10,7 @@ use crate::refusal::ReadRefusal;
 use orders::command::Command;
 
 // The first byte chooses the command, and the rest are its fields.
-fn read_command(frame: &[u8]) -> Result<Command, ReadRefusal>
+pub(crate) fn read_command(frame: &[u8]) -> Result<Command, ReadRefusal>
     ensures { ReadsCommand frame.now result }
 {
     match frame {

@@ -1,4 +1,4 @@
-// What a reader or a writer refuses. That each refusal has a number outside is a rule of the project; inside it is an enum.
+// What a reader or a writer refuses. That each refusal has a number outside is a rule of the project; inside it is an enum, and `number` says which number where a `From` into `u32` would not.
 ghost use Rattle.std.specs.Prelude.{◌≡◌};
 ghost use Rattle.ubp.specs.declared.refusal.Refusal.TheVariants.{Reading, Writing};
 ghost use Rattle.ubp.specs.Numbers.{read_number, write_number, refusal_number};

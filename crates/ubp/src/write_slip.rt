@@ -11,6 +11,7 @@ use crate::refusal::WriteRefusal;
 use crate::shown::ShownTerms;
 use orders::slip::{Slip, SlipKind};
 
+// Each step asks for room for just what it puts, and one that tells terms is handed them as they are shown, so that they are looked up once.
 // Writes how every answer begins.
 fn put_head(slip: &Slip, out: &mut [u8])
     requires { 23 ≤ length out.old }

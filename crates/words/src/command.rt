@@ -5,7 +5,7 @@ use orders::command::{CancelOrder, Command, ReplaceOrder};
 use orders::enter::EnterOrder;
 use std::fmt;
 
-// Room for the longest command.
+// Room for the longest command. By a rule of the project a writer is lent a buffer and answers a length, so a buffer with a length beside it stands wherever a message is written.
 pub(crate) const COMMAND_ROOM: usize = 67;
 
 // A command in words.
@@ -47,6 +47,7 @@ fn show_cancel<W: fmt::Write>(order: &CancelOrder, f: &mut fmt::Formatter<W>) ->
 
 impl fmt::Display for CommandWords<'_> {
     fn fmt<W: fmt::Write>(&self, f: &mut fmt::Formatter<W>) -> fmt::Result {
+        // by copy (`match self.0` was tried): the borrow checker does not cover a pattern through a reference at a variant that has a ghost field
         match *self.0 {
             Command::Enter(order) => show_enter(&order, f),
             Command::Replace(order) => show_replace(&order, f),

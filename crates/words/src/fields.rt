@@ -7,7 +7,7 @@ use orders::fields::{
 };
 use orders::slip::{Letter, SlipKind};
 
-// A coded value that people read as words.
+// A coded value that people read as words. No `Display`: the types are of a crate below, which has no words for people.
 pub(crate) trait InWords {
     ghost words: { Self → List ℕ };
 

@@ -23,7 +23,7 @@ impl fmt::Display for ByteWords {
         let byte = self.0;
         // a backslash is not shown as it is, so that \xNN is never a text of four characters
         if matches!(byte, b' '..=b'~') && byte != b'\\' {
-            let shown = byte as char;
+            let shown = char::from(byte);
             write!(f, "{shown}")
         } else {
             write!(f, "\\x{byte:02x}")
