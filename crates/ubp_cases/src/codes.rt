@@ -11,6 +11,7 @@ use orders::slip::{Letter, SlipKind};
 use ubp::read::read;
 use ubp::write_slip::write_slip;
 
+// The offsets stand once, beside eight rows of bytes: a table of pairs would say each of them eight times.
 // The offsets of side, time in force, capacity, cross style, peg, round lot, invite grade, constraint and leaves mode.
 static ENTER_PLACES: [usize; 12] = [15, 30, 31, 32, 33, 39, 54, 55, 66, 61, 46, 48];
 
