@@ -2,7 +2,6 @@
 ghost use Rattle.std.specs.Prelude.{◌≡◌, [], length};
 ghost use Rattle.orders.specs.Codes.{category_of};
 ghost use Rattle.policy.specs.PerCategory.{at};
-ghost use Rattle.orders.specs.declared.party.Category.{Category};
 ghost use Rattle.policy.specs.Grid.{meets, grid_allows, open_meetings, AllMeet, set_meets, after_setting, setting_answer, OnlySet};
 ghost use Rattle.std.proofs.Common.{rules};
 
@@ -15,7 +14,6 @@ use orders::party::{Category, Party};
 pub struct Grid<P> {
     pub below: P,
     rows: [[bool; 5]; 5],
-    ghost wide: { (c : Category) → length (at rows c []) ≡ 5 },
 }
 
 impl<P> Grid<P> {
@@ -38,9 +36,11 @@ impl<P> Grid<P> {
         self.rows[category as usize][other as usize]
     }
 
+    // `wide` hands on to `set` what the type says of the row that is written to. As a ghost field (tried) it would keep the borrow checker from covering `grid.below.below.set(..)`.
     fn put(&mut self, category: Category, other: Category, on: bool)
         ensures rows { self.new.rows ≡ set_meets self.old.rows category other on }
         ensures below { self.new.below ≡ self.old.below }
+        ensures wide { length (at self.old.rows category []) ≡ 5 }
     {
         self.rows[category as usize][other as usize] = on;
     }
