@@ -53,6 +53,7 @@ impl<'a, T: Keyed> List<'a, T> {
     }
 
     // The first place whose record has the key, which is the only one where no key stands twice.
+    #[tactic(auto, using(crate::proofs::Rows::only_place))]
     pub fn find(&self, wanted: &T::Key) -> Option<usize>
         ensures first { result ≡ position (λ x. T.Key.eq (T.key x) wanted.now) (live self.now) }
         ensures only { NoTwice (on T.key T.Key.eq) (live self.now)
