@@ -1,7 +1,7 @@
 -- Each command's frame is read, and tells the command.
-use Rattle.std.proofs.Common.{◌≡◌, ℕ, Bool, true, ◌/◌, ◌^◌, ◌<◌, List, [], ◌∷◌, get_or, drop, ℤ, is_some, Some, Err, Option, sym, refl, ap, ◌∙◌, arith, w32, to_z, of_z}
+use Rattle.std.proofs.Common.{◌≡◌, ℕ, Bool, true, ◌/◌, ◌^◌, ◌<◌, List, [], ◌∷◌, get_or, drop, ℤ, is_some, Some, Ok, Err, Option, sym, refl, ap, ◌∙◌, arith, w32, to_z, of_z}
 use denote.Struct.Record.{values_one}
-use Rattle.std.specs.Prelude.{FitsSigned}
+use Rattle.std.specs.Prelude.{FitsSigned, MatchResult}
 use Rattle.std.proofs.Math.Facts.{Fits-of_z}
 use Rattle.std.proofs.lemmas.Int.{to_z-of_z}
 use Rattle.orders.specs.Codes.{side_byte, side_of, time_number, time_of, capacity_byte, capacity_of, constraint_byte, constraint_of, leaves_byte, leaves_of, style_byte, style_of, peg_byte, peg_of, grade_number, grade_of, lots_byte, lots_of}
@@ -20,8 +20,8 @@ use Rattle.ubp.specs.declared.refusal.ReadRefusal.{ReadRefusal}
 use Rattle.ubp.specs.Bytes.{big4, bytes4}
 use Rattle.ubp.specs.Commands.{enter_type, enter_fields, replace_type, replace_fields, cancel_type, cancel_fields}
 use Rattle.ubp.specs.Formats.{bytes_of}
-use Rattle.ubp.specs.Frames.{verdict, encoded}
-use Rattle.ubp.specs.Theorems.{Taken, Told}
+use Rattle.ubp.specs.Frames.{Verdict, verdict, encoded}
+use Rattle.ubp.specs.Theorems.{ReadBack, Taken, Told}
 use Rattle.ubp.proofs.Own.{Good, good_read, Each, each}
 use Rattle.ubp.proofs.Pegs.{test_is}
 
@@ -175,3 +175,8 @@ told_own (Cancel c) (Cancel d) e = ap Cancel (cancel_same d c (rest e))
 -- a frame that is refused is no command's
 pub no_frame : {X : Type 0} (frame : List ℕ) {x : ReadRefusal} → Err x ≡ verdict frame → (c : Command) → frame ≡ encoded c → X
 no_frame frame e c f = let z : ◌≡◌ {A = ℕ} 0 1 = cc (e ∙ ap verdict f ∙ taken_own c) in absurd (omega arith)
+
+-- what a reader with these answers fills in, where it reads a command's own frame
+pub read_back : (frame : List ℕ) (r : Verdict) (old d : Command) → r ≡ verdict frame → MatchResult r (λ _. frame ≡ encoded d) (λ _. d ≡ old) → ReadBack frame r d
+read_back frame (Ok x) old d a f c e = (refl, told_own c d (sym f ∙ e))
+read_back frame (Err x) old d a f c e = no_frame frame a c e

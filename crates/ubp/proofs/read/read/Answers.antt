@@ -1,5 +1,6 @@
-use Rattle.ubp.proofs.OwnCommands.{no_frame}
+use Rattle.ubp.proofs.OwnCommands.{read_back}
 use Rattle.ubp.proofs.read.read.Goals as goal
 
-pub returns-in_err-into-clause-back : goal.returns-in_err-into-clause-back
-returns-in_err-into-clause-back c d f = no_frame c.args.frame.now c.in_err-into.ensures d f
+pub returns-clause-back : goal.returns-clause-back
+returns-clause-back c =
+    read_back c.args.frame.now c.fill.result c.args.into.now c.fill.new.into c.fill.ensures.answer c.fill.ensures.filled
