@@ -8,8 +8,14 @@ use ubp::refusal::ReadRefusal;
 use words::frame::SessionFrame;
 
 pub(crate) trait Audience {
-    // A frame that is only read and written back.
-    fn tell_read(&self, rt: &HostRuntime, frame: &SessionFrame<'_>) -> anyhow::Result<()>;
+    // A frame, which stands in this line, is only read and written back. Each audience reads it in its own way, so that no frame is read twice.
+    fn tell_read(
+        &self,
+        rt: &HostRuntime,
+        gathered: &mut Gathered<'_>,
+        line: u64,
+        bytes: &[u8],
+    ) -> anyhow::Result<()>;
 
     // A client's frame that can't be read.
     fn tell_refused(

@@ -13,8 +13,14 @@ use words::lines::{ReadLine, RefusalLine};
 pub(crate) struct Engines;
 
 impl Audience for Engines {
-    fn tell_read(&self, rt: &HostRuntime, frame: &SessionFrame<'_>) -> anyhow::Result<()> {
-        let line = ReadLine(frame.bytes);
+    fn tell_read(
+        &self,
+        rt: &HostRuntime,
+        _gathered: &mut Gathered<'_>,
+        _line: u64,
+        bytes: &[u8],
+    ) -> anyhow::Result<()> {
+        let line = ReadLine(bytes);
         println!(rt; "{line}")?;
         Ok(())
     }

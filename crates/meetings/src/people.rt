@@ -16,7 +16,14 @@ use words::setting::SettingRefusalWords;
 pub(crate) struct People;
 
 impl Audience for People {
-    fn tell_read(&self, rt: &HostRuntime, frame: &SessionFrame<'_>) -> anyhow::Result<()> {
+    fn tell_read(
+        &self,
+        rt: &HostRuntime,
+        gathered: &mut Gathered<'_>,
+        line: u64,
+        bytes: &[u8],
+    ) -> anyhow::Result<()> {
+        let frame = gathered.read_frame(line, bytes);
         println!(rt; "{frame}")?;
         Ok(())
     }

@@ -18,7 +18,6 @@ use session::file::Lines;
 use std::io::Read;
 use std::{env, fmt, fs};
 use words::counts::Counts;
-use words::frame::SessionFrame;
 
 // Everything public promises something, by a rule of the project, and no contract can say what the environment or a file gives: so this function and the next stand in each program and in no library.
 fn options_of(rt: &HostRuntime) -> anyhow::Result<Options> {
@@ -47,17 +46,9 @@ struct Replay<'a, 'b, A> {
 }
 
 impl<A: Audience> Replay<'_, '_, A> {
-    // The next frame, which is counted.
-    fn read_frame<'f>(&mut self, line: u64, bytes: &'f [u8]) -> SessionFrame<'f> {
-        let counts = &mut self.gathered.counts;
-        let frame = SessionFrame::read(counts.frames.saturating_add(1), line, bytes);
-        counts.note(&frame.answer);
-        frame
-    }
-
     // A frame of a client, whose order is kept.
     fn take_frame(&mut self, number: u64, line: &FrameLine) -> anyhow::Result<()> {
-        let frame = self.read_frame(number, line.bytes.as_slice());
+        let frame = self.gathered.read_frame(number, line.bytes.as_slice());
         match &frame.answer {
             Ok(command) => {
                 let kept = keep(&mut self.gathered.orders, line, command);
@@ -92,8 +83,8 @@ impl<A: Audience> Replay<'_, '_, A> {
         match parse(self.rt.alloc(), line) {
             Ok(BookItem::Nothing) => Ok(()),
             Ok(BookItem::Read(bytes)) => {
-                let frame = self.read_frame(number, bytes.as_slice());
-                self.audience.tell_read(self.rt, &frame)
+                self.audience
+                    .tell_read(self.rt, &mut self.gathered, number, bytes.as_slice())
             }
             Ok(BookItem::Frame(line)) => self.take_frame(number, &line),
             Ok(BookItem::Ban(line)) => self.take_ban(line),

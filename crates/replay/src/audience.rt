@@ -5,8 +5,14 @@ use words::frame::SessionFrame;
 use words::lines::ReadLine;
 
 pub(crate) trait Audience {
-    // A frame that is read and written back.
-    fn tell_frame(&self, rt: &HostRuntime, frame: &SessionFrame<'_>) -> anyhow::Result<()>;
+    // A frame, which stands in this line, is read and written back. Each audience reads it in its own way, so that no frame is read twice.
+    fn tell_frame(
+        &self,
+        rt: &HostRuntime,
+        counts: &mut Counts,
+        line: u64,
+        bytes: &[u8],
+    ) -> anyhow::Result<()>;
 
     // What stands below the last frame.
     fn tell_end(&self, rt: &HostRuntime, counts: &Counts) -> anyhow::Result<()>;
@@ -19,8 +25,18 @@ pub(crate) struct People;
 #[derive(Clone, Copy)]
 pub(crate) struct Engines;
 
+// `tell_frame` is not inlined: what it prints with would be cleared for every line.
 impl Audience for People {
-    fn tell_frame(&self, rt: &HostRuntime, frame: &SessionFrame<'_>) -> anyhow::Result<()> {
+    #[inline(never)]
+    fn tell_frame(
+        &self,
+        rt: &HostRuntime,
+        counts: &mut Counts,
+        line: u64,
+        bytes: &[u8],
+    ) -> anyhow::Result<()> {
+        let frame = SessionFrame::read(counts.frames.saturating_add(1), line, bytes);
+        counts.note(&frame.answer);
         println!(rt; "{frame}")?;
         Ok(())
     }
@@ -32,8 +48,15 @@ impl Audience for People {
 }
 
 impl Audience for Engines {
-    fn tell_frame(&self, rt: &HostRuntime, frame: &SessionFrame<'_>) -> anyhow::Result<()> {
-        let line = ReadLine(frame.bytes);
+    #[inline(never)]
+    fn tell_frame(
+        &self,
+        rt: &HostRuntime,
+        _counts: &mut Counts,
+        _line: u64,
+        bytes: &[u8],
+    ) -> anyhow::Result<()> {
+        let line = ReadLine(bytes);
         println!(rt; "{line}")?;
         Ok(())
     }

@@ -3,12 +3,12 @@ use crate::audience::{Audience, Engines, People};
 use anyhow::anyhow;
 use options::{Options, Output};
 use session::error::LineError;
+use session::fault::LineFault;
 use session::file::Lines;
 use session::line::{Item, parse};
 use std::io::Read;
 use std::{env, fs};
 use words::counts::Counts;
-use words::frame::SessionFrame;
 
 // Everything public promises something, by a rule of the project, and no contract can say what the environment or a file gives: so this function and the next stand in each program and in no library.
 fn options_of(rt: &HostRuntime) -> anyhow::Result<Options> {
@@ -37,26 +37,24 @@ struct Replay<'a, A> {
 }
 
 impl<A: Audience> Replay<'_, A> {
-    fn take_frame(&mut self, line: u64, bytes: &[u8]) -> anyhow::Result<()> {
-        let number = self.counts.frames.saturating_add(1);
-        let frame = SessionFrame::read(number, line, bytes);
-        self.counts.note(&frame.answer);
-        self.audience.tell_frame(self.rt, &frame)
+    // A line that is wrong is reported and passed over. Not inlined: what it prints with would be cleared for every line.
+    #[inline(never)]
+    fn report(&mut self, line: u64, fault: LineFault) -> anyhow::Result<()> {
+        eprintln!(self.rt; "line {line}: {fault}")?;
+        self.counts.note_fault();
+        Ok(())
     }
 
-    // A line that is wrong is reported and passed over.
     fn take_line(&mut self, number: u64, line: &[u8]) -> anyhow::Result<()> {
-        let rt = self.rt;
-        match parse(rt.alloc(), line) {
-            Ok(Item::Nothing) => {}
-            Ok(Item::Read(bytes)) => self.take_frame(number, bytes.as_slice())?,
-            Err(LineError::Fault(fault)) => {
-                eprintln!(rt; "line {number}: {fault}")?;
-                self.counts.note_fault();
+        match parse(self.rt.alloc(), line) {
+            Ok(Item::Nothing) => Ok(()),
+            Ok(Item::Read(bytes)) => {
+                self.audience
+                    .tell_frame(self.rt, &mut self.counts, number, bytes.as_slice())
             }
-            Err(LineError::NoMemory(error)) => return Err(error.into()),
+            Err(LineError::Fault(fault)) => self.report(number, fault),
+            Err(LineError::NoMemory(error)) => Err(error.into()),
         }
-        Ok(())
     }
 
     fn take_text(&mut self, text: &[u8]) -> anyhow::Result<()> {

@@ -1,8 +1,6 @@
 -- What a loop that encodes has written; and that decoding undoes it.
-use Rattle.std.proofs.Common.{◌≡◌, ℕ, suc, ◌+◌, ◌-◌, ◌/◌, ◌%◌, ◌^◌, ◌<◌, false, List, [], ◌∷◌, ◌++◌, length, get_or, take, Some, Ok, sym, refl, ap, ◌∙◌, arith}
-use Rattle.std.proofs.lemmas.Fmt.{hex_byte}
+use Rattle.std.proofs.Common.{◌≡◌, ℕ, suc, ◌+◌, ◌/◌, ◌%◌, ◌<◌, List, [], ◌∷◌, ◌++◌, length, get_or, take, Some, Ok, sym, refl, ap, ◌∙◌, append_assoc, arith}
 use Rattle.std.proofs.lemmas.List.{take_more}
-use Rattle.std.specs.Fmt.{digits, padded_integral, format_spec}
 use Rattle.std.proofs.lemmas.Bool.Decides.{nat_tests}
 use Rattle.session.specs.Hex.{before, byte_from, byte_of, digit_of, hex_bytes, hex_text, letter}
 
@@ -10,12 +8,11 @@ hex_push : (bytes : List ℕ) (b : ℕ) → hex_text (bytes ++ b ∷ []) ≡ hex
 hex_push [] b = refl
 hex_push (a ∷ bytes) b = ap (λ text. letter (a / 16) ∷ letter (a % 16) ∷ text) (hex_push bytes b)
 
--- one more byte, as `{:02x}` writes it
-pub text_more : (bytes : List ℕ) (i : ℕ) → i < length bytes → get_or bytes i 0 < 256
-    → hex_text (take i bytes) ++ padded_integral (format_spec 32 0 4 2 (2 ^ 64 - 1)) false [] (digits 16 false (get_or bytes i 0)) ≡ hex_text (take (i + 1) bytes)
-text_more bytes i h fits =
-    ap (λ text. hex_text (take i bytes) ++ text) (hex_byte false (get_or bytes i 0) fits)
-    ∙ sym (ap hex_text (take_more bytes i 0 h) ∙ hex_push (take i bytes) (get_or bytes i 0))
+-- one more byte, as its two digits
+pub digits_more : (bytes high low : List ℕ) (i : ℕ) → i < length bytes → high ≡ letter (get_or bytes i 0 / 16) ∷ [] → low ≡ letter (get_or bytes i 0 % 16) ∷ []
+    → (hex_text (take i bytes) ++ high) ++ low ≡ hex_text (take (i + 1) bytes)
+digits_more bytes high low i h eh el =
+    rw (eh, el) (append_assoc (hex_text (take i bytes)) _ _ ∙ sym (ap hex_text (take_more bytes i 0 h) ∙ hex_push (take i bytes) (get_or bytes i 0)))
 
 digit_letter : (n : ℕ) → n < 16 → digit_of (letter n) ≡ Some n
 digit_letter n h = grind (arith, nat_tests)
